@@ -1,0 +1,5 @@
+pub mod Operators
+pub mod Modes
+pub mod Accesses
+pub mod PlainKernels
+pub mod Laws
