@@ -73,7 +73,7 @@ taken_all (Some xs) (Some ys) (Some zs) bytes piece taken more none end =
 pub took_within : (old new : Option (List ℕ)) (bytes : List ℕ) (limit : ℕ) (too_many : Type 0) → Consumes old new bytes → length bytes ≤ limit → (too_many → ⊥) →
     TakesWithin limit too_many old new
 took_within old new bytes limit too_many taken few not_so =
-    record { bytes = bytes; taken = taken; few = omega arith; over = (λ so. absurd (not_so so), λ more. absurd (omega arith)) }
+    record { bytes = bytes; taken = taken; few = omega arith; passed = (λ so. absurd (not_so so), λ more. absurd (omega arith)) }
 
 -- nor with the front of one more piece
 pub took_piece : (old now new : Option (List ℕ)) (bytes piece : List ℕ) (count limit : ℕ) (too_many : Type 0) → Consumes old now bytes → Consumes now new (take count piece) →
@@ -89,7 +89,7 @@ took_past old now new bytes piece count limit too_many taken more fits one_more 
   bytes = bytes ++ take count piece;
   taken = Consumes-trans old now new bytes (take count piece) taken more;
   few = omega (arith, length-append bytes (take count piece), length-take-le count piece fits);
-  over = (λ _. omega (arith, length-append bytes (take count piece), length-take-le count piece fits), λ _. so);
+  passed = (λ _. omega (arith, length-append bytes (take count piece), length-take-le count piece fits), λ _. so);
 }
 
 -- a source that gave more than the limit has more

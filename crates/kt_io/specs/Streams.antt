@@ -45,7 +45,7 @@ pub record TakesWithin (most : ℕ) (too_many : Type 0) (old new : Option (List 
   pub bytes : List ℕ
   pub taken : Consumes old new bytes
   pub few : length bytes ≤ most + 1
-  pub over : too_many ↔ (most < length bytes)
+  pub passed : too_many ↔ (most < length bytes)
 
 -- A front of the bytes was appended, and not all.
 pub record AppendsPart (old new : Option (List ℕ)) (bytes : List ℕ) : Type 0 where

@@ -26,11 +26,12 @@ impl Model for MemSource {
     ghost Value = { Reading };
 
     ghost view = { λ s. record {
-        left = drop s.given s.bytes.items;
-        piece = s.piece;
-        fails = s.fails.items;
-        calls = s.calls;
-        faults = s.faults } };
+      left = drop s.given s.bytes.items;
+      piece = s.piece;
+      fails = s.fails.items;
+      calls = s.calls;
+      faults = s.faults;
+    } };
 
     ghost invariant = { λ s. (s.given ≤ vec_len s.bytes) × (0 < s.piece) };
 }
@@ -40,7 +41,12 @@ impl MemSource {
     pub fn new(bytes: Vec<u8>, piece: usize, fails: Vec<u64>) -> Self
         requires { 0 < piece }
         ensures { result ≡ record {
-            left = bytes.items; piece = piece; fails = fails.items; calls = 0; faults = 0 } }
+          left = bytes.items;
+          piece = piece;
+          fails = fails.items;
+          calls = 0;
+          faults = 0;
+        } }
     {
         MemSource {
             bytes,
@@ -104,12 +110,13 @@ impl Model for MemSink {
     ghost Value = { Writing };
 
     ghost view = { λ s. record {
-        written = s.taken.items;
-        room = s.room;
-        piece = s.piece;
-        fails = s.fails.items;
-        calls = s.calls;
-        faults = s.faults } };
+      written = s.taken.items;
+      room = s.room;
+      piece = s.piece;
+      fails = s.fails.items;
+      calls = s.calls;
+      faults = s.faults;
+    } };
 
     ghost invariant = { λ s. (vec_len s.taken ≤ s.room) × (s.room ≤ vec_capacity s.taken) × (0 < s.piece) };
 }
@@ -119,7 +126,13 @@ impl MemSink {
     pub fn new(alloc: Global, room: usize, piece: usize, fails: Vec<u64>) -> Result<Self, NoMemory>
         requires { 0 < piece }
         ensures { IfOk result (λ sink. sink ≡ record {
-            written = []; room = room; piece = piece; fails = fails.items; calls = 0; faults = 0 }) }
+          written = [];
+          room = room;
+          piece = piece;
+          fails = fails.items;
+          calls = 0;
+          faults = 0;
+        }) }
     {
         let taken = Vec::with_capacity(alloc, room)?;
         Ok(MemSink {

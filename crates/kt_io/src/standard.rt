@@ -46,7 +46,6 @@ impl<I: Read + Drop> Source for StdSource<I> {
         ensures bound { ReadsAtMost result into.new }
         ensures bytes { Reads self.old.bytes self.new.bytes result into.new }
         ensures cause { HasCause self.old.faults self.new.faults result }
-        ensures once { 0 ≤ 1 }
 
         // The count is raised at failures alone.
         ensures count { CountsFaults self.old.faults self.new.faults result }
@@ -99,7 +98,6 @@ impl<O: Write + Drop> Sink for StdSink<O> {
         ensures bound { IsCountOf result piece.now }
         ensures bytes { Writes self.old.bytes self.new.bytes result piece.now }
         ensures cause { HasCause self.old.faults self.new.faults result }
-        ensures once { 0 ≤ 1 }
 
         // The count is raised at failures alone.
         ensures count { CountsFaults self.old.faults self.new.faults result }
