@@ -1,5 +1,5 @@
 -- A source and a sink over memory, and what each call does to them.
-use Rattle.std.specs.Prelude.{ℕ, List, ◌≡◌, ◌+◌, ◌-◌, ◌^◌, ◌≤◌, ◌↔◌, ◌⊎◌, min, length, Result, IsErr, IfOk, Contains}
+use Rattle.std.specs.Prelude.{ℕ, List, [], ◌≡◌, ◌+◌, ◌-◌, ◌^◌, ◌≤◌, ◌↔◌, ◌⊎◌, min, length, Result, IsErr, IfOk, Contains}
 use Rattle.kt_io.specs.Standard.{CountsFaults}
 
 -- A source: what it has left, the most bytes a call, the numbers of the calls that fail, and how many calls and faults there were.
@@ -18,6 +18,13 @@ pub record Writing : Type 0 where
   pub fails : List ℕ
   pub calls : ℕ
   pub faults : ℕ
+
+-- Before the first call.
+abbrev pub fresh_source : List ℕ → ℕ → List ℕ → Reading
+fresh_source bytes piece fails = record { left = bytes; piece = piece; fails = fails; calls = 0; faults = 0 }
+
+abbrev pub fresh_sink : ℕ → ℕ → List ℕ → Writing
+fresh_sink room piece fails = record { written = []; room = room; piece = piece; fails = fails; calls = 0; faults = 0 }
 
 -- A read into a buffer of so many bytes: it fails at the listed calls, and else gives all that piece, buffer and source allow.
 pub record ReadsInPieces {E : Type 0} (size : ℕ) (old new : Reading) (result : Result ℕ E) : Type 0 where

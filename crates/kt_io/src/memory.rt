@@ -1,5 +1,5 @@
 // A source and a sink over memory, which fail at the calls of given numbers.
-ghost use Rattle.std.specs.Prelude.{◌≡◌, ◌<◌, ◌≤◌, ◌+◌, [], List, length, Some, IfOk};
+ghost use Rattle.std.specs.Prelude.{◌≡◌, ◌<◌, ◌≤◌, ◌+◌, length, Some, IfOk};
 ghost use Rattle.std.specs.Io.{ReadsAtMost};
 ghost use Rattle.kt_io.specs.Streams.{HasCause, Reads, Writes, IsCountOf};
 
@@ -37,16 +37,12 @@ impl Model for MemSource {
 }
 
 impl MemSource {
+    ghost use Rattle.kt_io.specs.Memory.{fresh_source};
+
     /// A source of these bytes that was not read yet.
     pub fn new(bytes: Vec<u8>, piece: usize, fails: Vec<u64>) -> Self
         requires { 0 < piece }
-        ensures { result ≡ record {
-          left = bytes.items;
-          piece = piece;
-          fails = fails.items;
-          calls = 0;
-          faults = 0;
-        } }
+        ensures { result ≡ fresh_source bytes.items piece fails.items }
     {
         MemSource {
             bytes,
@@ -122,17 +118,12 @@ impl Model for MemSink {
 }
 
 impl MemSink {
+    ghost use Rattle.kt_io.specs.Memory.{fresh_sink};
+
     /// A sink to which nothing was written yet. It takes the memory of its whole room here.
     pub fn new(alloc: Global, room: usize, piece: usize, fails: Vec<u64>) -> Result<Self, NoMemory>
         requires { 0 < piece }
-        ensures { IfOk result (λ sink. sink ≡ record {
-          written = [];
-          room = room;
-          piece = piece;
-          fails = fails.items;
-          calls = 0;
-          faults = 0;
-        }) }
+        ensures { IfOk result (λ sink. sink ≡ fresh_sink room piece fails.items) }
     {
         let taken = Vec::with_capacity(alloc, room)?;
         Ok(MemSink {
