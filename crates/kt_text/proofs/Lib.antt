@@ -1,0 +1,6 @@
+pub mod Cases
+pub mod Digits
+pub mod Fits
+pub mod GapSteps
+pub mod PlaceSteps
+pub mod TokenLists
