@@ -5,7 +5,7 @@ use std::alloc::Global;
 use std::io;
 use std::test::Fail;
 
-// The length of a small job, and the answer to it.
+// As long as a small job, and the answer to one.
 const INPUT: [u8; 93] = [b'7'; 93];
 
 const LINE: [u8; 8] = *b"A[0] 42\n";
