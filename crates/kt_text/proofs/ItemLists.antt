@@ -1,13 +1,12 @@
 -- What is said of the items of the data, from those that were read.
-use Rattle.std.proofs.Common.{◌≡◌, ◌≢◌, ◌&&◌, ℕ, zero, suc, ◌+◌, ◌-◌, ◌<◌, ◌≤◌, ◌^◌, Bool, true, false, cond, List, [], ◌∷◌, ◌++◌, length, drop, take, map, refl, ap, sym, ◌∙◌, arith, append_assoc, inl, Option, Some, None, Result, Ok, Err, nat_lt, is_none}
+use Rattle.std.proofs.Common.{◌≡◌, ◌≢◌, ◌&&◌, ℕ, suc, ◌+◌, ◌-◌, ◌<◌, ◌≤◌, ◌^◌, Bool, true, false, cond, List, [], ◌∷◌, ◌++◌, length, drop, take, map, refl, ap, sym, ◌∙◌, arith, append_assoc, inl, Some, None, Result, Ok, Err, nat_lt, is_none}
 use Rattle.std.specs.Char.{is_ascii_digit}
-use Rattle.std.specs.List.{find, list_all, prefix_len, take_while}
+use Rattle.std.specs.List.{find, list_all, prefix_len}
 use Rattle.std.proofs.lemmas.List.{append-nil, drop_all, length-append, length-drop, length-map, map-append, take_all}
 use Rattle.std.proofs.lemmas.List.Folds.{find-append}
 use Rattle.std.proofs.lemmas.List.Sums.{prefix_len-le-length}
 use Rattle.std.proofs.lemmas.Bool.Decides.{nat_tests}
 use Rattle.std.proofs.Math.Seq.{drop-append_seam, take-append-add, take-append_seam}
-use Rattle.kt_law.specs.declared.places.Place.{Place}
 use Rattle.kt_text.specs.declared.data.DataError.{DataError}
 use Rattle.kt_text.specs.declared.data.DataError.TheVariants.{BadNumber, TooFew, TooMany}
 use Rattle.kt_text.specs.Bytes.{is_blank, is_item_byte, value_of}
@@ -33,7 +32,7 @@ bad_number read more item wanted good few bad =
     let left : ℕ = wanted - suc (length read) in
     let split : wanted ≡ length read + suc left = omega arith in
     let seen : take wanted (read ++ item ∷ more) ≡ read ++ item ∷ take left more =
-        ap (λ n. take n (read ++ item ∷ more)) split ∙ take-append-add read (item ∷ more) (suc left) in
+    ap (λ n. take n (read ++ item ∷ more)) split ∙ take-append-add read (item ∷ more) (suc left) in
     ap (λ items. answer_of (read ++ item ∷ more) wanted (find (λ i. is_bad i) items)) seen
     ∙ ap (λ found. answer_of (read ++ item ∷ more) wanted found) (first_bad read (take left more) item good bad)
 
@@ -114,9 +113,9 @@ read_on job from at wanted stop n so_far r h is high good other =
     let item : Item = item_at job at in
     let next : ℕ = stop + prefix_len is_blank (drop stop job) in
     let more : starts_behind job from (at + prefix_len is_item_byte (drop at job)) ≡ starts_behind job from next =
-        ap (λ i. starts_behind job from i) (sym is) ∙ starts_behind-blanks job from stop high in
+    ap (λ i. starts_behind job from i) (sym is) ∙ starts_behind-blanks job from stop high in
     let rest : items_behind job from at ≡ item ∷ items_behind job from next =
-        next_item job from at r.behind h (r.begins h) ∙ ap (λ ks. item ∷ map (λ i. item_at job i) ks) more in
+    next_item job from at r.behind h (r.begins h) ∙ ap (λ ks. item ∷ map (λ i. item_at job i) ks) more in
     let edge : IsEdge job from stop = rw is (edge_behind job from at r.inside) in
     record {
       behind = omega (arith, r.behind);

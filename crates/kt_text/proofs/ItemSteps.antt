@@ -1,11 +1,11 @@
 -- The items of the data go one by one.
-use Rattle.std.proofs.Common.{◌≡◌, ℕ, zero, suc, ◌+◌, ◌-◌, ◌<◌, ◌≤◌, ◌==◌, ◌⊎◌, Bool, true, false, not, cond, ◌&&◌, ◌||◌, List, [], ◌∷◌, length, drop, get_or, map, refl, ap, sym, ◌∙◌, arith, inl, inr, eq-eqb}
+use Rattle.std.proofs.Common.{◌≡◌, ℕ, zero, suc, ◌+◌, ◌-◌, ◌<◌, ◌≤◌, ◌==◌, ◌⊎◌, Bool, true, false, not, ◌&&◌, ◌||◌, List, [], ◌∷◌, length, drop, get_or, refl, ap, sym, ◌∙◌, arith, inl, inr, eq-eqb}
 use Rattle.std.specs.List.{filter, prefix_len, range_with_len}
 use Rattle.std.proofs.lemmas.List.{length-drop, get_or-drop}
 use Rattle.std.proofs.lemmas.List.Sums.{prefix_len-drop_yes, prefix_len-le-length, prefix_len_passes, prefix_len_stops}
 use Rattle.std.proofs.lemmas.Bool.Decides.{nat_tests}
 use Rattle.kt_text.specs.Bytes.{is_blank, is_item_byte}
-use Rattle.kt_text.specs.Data.{Item, begins_item, item_at}
+use Rattle.kt_text.specs.Data.{begins_item}
 
 -- where the items from i on begin
 abbrev pub starts_behind : List ℕ → ℕ → ℕ → List ℕ
@@ -88,7 +88,7 @@ starts_behind-item job from i low h e =
     let whole : i + n ≡ i + 1 + m = omega arith in
     a_start job from i h e ∙ ap (λ ks. i ∷ ks) (no_starts job from (i + 1) m (omega (arith, prefix_len-le-length is_item_byte (drop (i + 1) job), length-drop (i + 1) job))
     (λ k below. let at : i + 1 + k ≡ i + k + 1 = omega arith in
-        rw at (inner_begins_none job from (i + k) (omega arith) (ap (λ b. is_item_byte b) (sym (get_or-drop i job k 0)) ∙ prefix_len_passes is_item_byte (drop i job) k 0 (omega arith))))
+    rw at (inner_begins_none job from (i + k) (omega arith) (ap (λ b. is_item_byte b) (sym (get_or-drop i job k 0)) ∙ prefix_len_passes is_item_byte (drop i job) k 0 (omega arith))))
     ∙ ap (λ j. starts_behind job from j) (sym whole))
 
 -- the data begin at i, or a blank stands there, or nothing does
@@ -108,8 +108,8 @@ begins_there : (job : List ℕ) (from i n : ℕ) → IsEdge job from i → n ≡
 begins_there job from i zero edge e h =
     let here : i + 0 ≡ i = omega arith in
     elim (edge (omega arith)) [
-      inl is ↦ (let same : (i + 0 == from) ≡ true = eq-eqb (i + 0) from (here ∙ is) in rw same refl)
-    | inr blank ↦ (let more = prefix_len-drop_yes is_blank job i 0 (omega arith) blank in absurd (omega (arith, more, e)))
+      | inl is ↦ (let same : (i + 0 == from) ≡ true = eq-eqb (i + 0) from (here ∙ is) in rw same refl)
+      | inr blank ↦ (let more = prefix_len-drop_yes is_blank job i 0 (omega arith) blank in absurd (omega (arith, more, e)))
     ]
 begins_there job from i (suc n) edge e h =
     let before : i + suc n - 1 ≡ i + n = omega arith in

@@ -44,7 +44,11 @@ pub fn read_data(alloc: Global, job: &[u8], from: usize, wanted: u32) -> Result<
         };
         at = item_start(job, stop);
     }
-    if read.len() < wanted as usize { Err(DataError::TooFew(read.len() as u32, wanted)) } else { Ok(read) }
+    if read.len() < wanted as usize {
+        Err(DataError::TooFew(read.len() as u32, wanted))
+    } else {
+        Ok(read)
+    }
 }
 
 /// Where the first item behind `at` begins, or the end.

@@ -21,9 +21,20 @@ fn command(words: &[String]) -> Option<Command>
         [name] => one_word(name.as_str()),
         [name, workers] => two_words(name.as_str(), workers.as_str()),
         [name, workers, number] => three_words(name.as_str(), workers.as_str(), number.as_str()),
-        [name, kind, size, number] => four_words(name.as_str(), kind.as_str(), size.as_str(), number.as_str()),
+        [name, kind, size, number] => four_words(
+            name.as_str(),
+            kind.as_str(),
+            size.as_str(),
+            number.as_str(),
+        ),
         [name, kind, size, number, workers] => {
-            five_words(name.as_str(), kind.as_str(), size.as_str(), number.as_str(), workers.as_str())
+            five_words(
+                name.as_str(),
+                kind.as_str(),
+                size.as_str(),
+                number.as_str(),
+                workers.as_str(),
+            )
         }
         _ => None,
     }
@@ -56,7 +67,10 @@ fn three_words(name: &str, workers: &str, number: &str) -> Option<Command>
     if name != "sim" {
         return None;
     }
-    Some(Command::Sim(read_workers(workers.as_bytes())?, read_number(number.as_bytes())?))
+    Some(Command::Sim(
+        read_workers(workers.as_bytes())?,
+        read_number(number.as_bytes())?,
+    ))
 }
 
 fn four_words(name: &str, kind: &str, size: &str, number: &str) -> Option<Command>
