@@ -22,7 +22,8 @@ pub enum DataError {
     NoMemory,
 }
 
-/// The numbers behind `from`, of which there have to be as many as wanted. Takes memory for no more than these.
+/// The numbers behind `from`, of which there have to be as many as wanted. Memory is taken for the numbers read, and the
+/// reading stops behind the last one wanted.
 pub fn read_data(alloc: Global, job: &[u8], from: usize, wanted: u32) -> Result<Vec<u64>, DataError>
     requires inside { from ≤ length job.now }
     requires short { length job.now < u32.MAX }
@@ -69,7 +70,7 @@ fn item_stop(job: &[u8], start: usize) -> usize
     start + item_length(&job[start..])
 }
 
-/// The number that an item writes.
+/// The number that an item writes, if it is one.
 fn item_number(item: &[u8]) -> Option<u64>
     ensures { result ≡ item_number_of item.now }
 {

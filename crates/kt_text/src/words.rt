@@ -27,15 +27,13 @@ fn command(words: &[String]) -> Option<Command>
             size.as_str(),
             number.as_str(),
         ),
-        [name, kind, size, number, workers] => {
-            five_words(
-                name.as_str(),
-                kind.as_str(),
-                size.as_str(),
-                number.as_str(),
-                workers.as_str(),
-            )
-        }
+        [name, kind, size, number, workers] => five_words(
+            name.as_str(),
+            kind.as_str(),
+            size.as_str(),
+            number.as_str(),
+            workers.as_str(),
+        ),
         _ => None,
     }
 }
