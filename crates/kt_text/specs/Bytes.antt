@@ -1,5 +1,5 @@
 -- Kinds of bytes.
-use Rattle.std.specs.Prelude.{ℕ, ◌+◌, ◌*◌, ◌-◌, Bool, ◌&&◌, ◌||◌, ◌==◌, List, codes}
+use Rattle.std.specs.Prelude.{ℕ, ◌+◌, ◌*◌, ◌-◌, Bool, not, ◌&&◌, ◌||◌, ◌==◌, List, codes}
 use Rattle.std.specs.Char.{is_ascii_alphabetic, is_ascii_digit}
 use Rattle.std.specs.List.{fold, list_any}
 use Rattle.std.specs.Str.{byte}
@@ -13,6 +13,10 @@ is_line_feed b = b == 10
 -- space, tab, line feed, carriage return
 abbrev pub is_blank : ℕ → Bool
 is_blank b = is_among (codes " \t\n\r") b
+
+-- what the items of the data are made of
+abbrev pub is_item_byte : ℕ → Bool
+is_item_byte b = not (is_blank b)
 
 -- `A` to `Z`, `a` to `z`, `_`
 abbrev pub is_letter : ℕ → Bool

@@ -1,8 +1,8 @@
 // Kinds of bytes, and how many of a kind come next.
-ghost use Rattle.std.specs.Prelude.{◌≡◌, ◌≤◌, ◌^◌, MatchOption};
+ghost use Rattle.std.specs.Prelude.{◌≡◌, ◌≤◌, ◌^◌, length, MatchOption};
 ghost use Rattle.std.specs.Char.{is_ascii_digit};
-ghost use Rattle.std.specs.List.{prefix_len};
-ghost use Rattle.kt_text.specs.Bytes.{is_blank, is_letter, is_pair, is_single, is_word_byte, value_of};
+ghost use Rattle.std.specs.List.{list_all, prefix_len};
+ghost use Rattle.kt_text.specs.Bytes.{is_blank, is_item_byte, is_letter, is_pair, is_single, is_word_byte, value_of};
 
 /// Space, tab, line feed or carriage return.
 pub(crate) fn is_blank(byte: u8) -> bool
@@ -51,6 +51,29 @@ pub(crate) fn digits_length(text: &[u8]) -> usize
     ensures { result ≡ prefix_len is_ascii_digit text.now }
 {
     text.iter().take_while(|byte| byte.is_ascii_digit()).count()
+}
+
+/// How many blanks stand at the front.
+pub(crate) fn blanks_length(text: &[u8]) -> usize
+    ensures value { result ≡ prefix_len is_blank text.now }
+    ensures within { result ≤ length text.now }
+{
+    text.iter().take_while(|byte| is_blank(**byte)).count()
+}
+
+/// How many bytes other than blanks stand at the front.
+pub(crate) fn item_length(text: &[u8]) -> usize
+    ensures value { result ≡ prefix_len is_item_byte text.now }
+    ensures within { result ≤ length text.now }
+{
+    text.iter().take_while(|byte| !is_blank(**byte)).count()
+}
+
+/// Whether all bytes are digits.
+pub(crate) fn are_digits(text: &[u8]) -> bool
+    ensures { result ≡ list_all is_ascii_digit text.now }
+{
+    text.iter().all(|byte| byte.is_ascii_digit())
 }
 
 /// The number that these digits write, if it is below 2^64.

@@ -66,3 +66,16 @@ pub(crate) fn place_behind(place: Place, byte: u8) -> Place
         }
     }
 }
+
+/// The place of the byte at `at`, or of the end.
+pub(crate) fn place_at(text: &[u8], at: usize) -> Place
+    requires inside { at ≤ length text.now }
+    requires short { length text.now < u32.MAX }
+    ensures { result ≡ place_of text.now at }
+{
+    let mut place = Place { line: 1, column: 1 };
+    for byte in &text[..at] {
+        place = place_behind(place, *byte);
+    }
+    place
+}

@@ -2,6 +2,8 @@
 #![tactic(auto)]
 
 mod bytes;
+mod commands;
+mod data;
 mod gaps;
 pub mod laws;
 mod lexemes;
@@ -9,6 +11,10 @@ mod lexing;
 #[cfg(test)]
 mod tests;
 mod tokens;
+mod words;
 
+pub use commands::{Command, Kind, Usage};
+pub use data::{DataError, read_data};
 pub use lexing::Lexer;
 pub use tokens::{Token, TokenKind};
+pub use words::read_words;
