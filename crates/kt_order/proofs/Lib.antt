@@ -1,0 +1,16 @@
+pub mod Lists
+pub mod Stands
+pub mod Bounds
+pub mod Next
+pub mod Nodes
+pub mod Moves
+pub mod Rests
+pub mod Clears
+pub mod Shapes
+pub mod Ats
+pub mod Changes
+pub mod Kept
+pub mod Progress
+pub mod Measure
+pub mod Shown
+pub mod Agree

@@ -1,0 +1,13 @@
+pub mod Body
+pub mod Machine
+pub mod Sequential
+pub mod Trace
+pub mod Stand
+pub mod Laws
+pub mod Forest
+pub mod Rest
+pub mod Events
+pub mod Lawful
+pub mod Shown
+pub mod Places
+pub mod Theorems
