@@ -1,6 +1,7 @@
 -- Forks hand on what the rights hand on.
-use Rattle.std.proofs.Common.{◌≡◌, ◌≤◌, ◌<◌, ℕ, zero, suc, ◌+◌, Bool, true, false, not, ◌&&◌, List, [], ◌∷◌, ◌++◌, length, Option, Some, None, ◌⊎◌, inl, inr, refl, sym, ap, subst, arith, nat_lt, nat_le, nat_eq, append_assoc, append-nil, is_some, if◌then◌else◌}
+use Rattle.std.proofs.Common.{◌≡◌, ◌≤◌, ◌<◌, ℕ, suc, ◌+◌, ◌-◌, Bool, true, false, not, ◌&&◌, List, [], ◌∷◌, ◌++◌, length, Option, Some, None, refl, sym, subst, arith, nat_lt, nat_le, nat_eq, append_assoc, append-nil, is_some, if◌then◌else◌}
 use Rattle.std.proofs.lemmas.Bool.Decides.{nat_tests}
+use Rattle.kt_law.specs.declared.limits.TheConstants.{DEPTH, LENGTH}
 use Rattle.kt_law.specs.Modes.{hands_on_of}
 use Rattle.kt_law.specs.Accesses.{clashes}
 use Rattle.kt_law.specs.declared.faults.F.TheVariants.{F3, F4, F5, F7}
@@ -9,20 +10,19 @@ use Rattle.kt_law.specs.declared.modes.Mode.{Mode}
 use Rattle.kt_law.specs.declared.places.Place.{Place}
 use Rattle.kt_law.specs.declared.accesses.Access.{Access}
 use Rattle.kt_prog.specs.Calls.{CallTree, Job, Whole}
-use Rattle.kt_prog.specs.Script.{Script, Step, ◌>>=◌, ◌>>◌, give, fork, tested}
+use Rattle.kt_prog.specs.Script.{Script, Step}
 use Rattle.kt_prog.specs.Locals.{Site, bound_of}
-use Rattle.kt_prog.specs.Objects.{objects_of}
 use Rattle.kt_prog.specs.Lookups.{Range, object_in, range_in}
-use Rattle.kt_prog.specs.Values.{View, value_of, object_at}
+use Rattle.kt_prog.specs.Values.{View, value_of}
 use Rattle.kt_prog.specs.Targets.{Target, target_of}
-use Rattle.kt_prog.specs.Forks.{range_at, member, members, object_step, range_step, number_of, object_of, range_of, Given, with_int, with_access, argument, arguments, length_step, nothing_given, child, fork_step, fork_named}
+use Rattle.kt_prog.specs.Forks.{range_length, object_step, range_step, range_of, Given, with_int, with_access, argument, arguments, length_step, nothing_given, child, fork_step, fork_named}
 use Rattle.kt_prog.specs.Scope.{Scope, kind_of}
 use Rattle.kt_prog.specs.declared.sight.Kind.TheVariants.{Number, Variable, Index, One, Many}
 use Rattle.kt_prog.specs.declared.sight.Kind.{Kind}
-use Rattle.kt_prog.specs.Rules.{breaches_in, Breaches, rules_of, broken_at, denied}
+use Rattle.kt_prog.specs.Rules.{breaches_in, Breaches, denied}
 use Rattle.kt_prog.specs.ForkRules.{wants_other, wants_one, wants_many, one_rule, many_rule, argument_rule, argument_rules, length_rule, is_formed, fork_rule, unknown_in_all}
-use Rattle.kt_prog.specs.Rights.{SomeOf, Covers, Allowed}
-use Rattle.kt_prog.specs.Fits.{EachOf, GivenOne, AreGiven, Inside, FitsTarget}
+use Rattle.kt_prog.specs.Rights.{SomeOf, Covers}
+use Rattle.kt_prog.specs.Fits.{EachOf, AreGiven, Inside, FitsTarget}
 use Rattle.kt_prog.specs.declared.scope.Local.{Local}
 use Rattle.kt_prog.specs.declared.scope.Bound.{Bound}
 use Rattle.kt_prog.specs.declared.scope.Bound.TheVariants as B
@@ -33,10 +33,10 @@ use Rattle.kt_prog.specs.declared.programs.ArgWhat.{ArgWhat}
 use Rattle.kt_prog.specs.declared.programs.ArgWhat.TheVariants as A
 use Rattle.kt_prog.specs.declared.programs.Expr.{Expr, Expr-F, out-Expr}
 use Rattle.kt_prog.specs.declared.programs.Expr.TheOpen as E
-use Rattle.kt_prog.proofs.Good.{Good, good_give, good_then, good_stop, good_test, good_fork}
+use Rattle.kt_prog.proofs.Good.{Good, good_give, good_then, good_test, good_fork}
 use Rattle.kt_prog.proofs.Lists.{left_none, right_none, not_denied, not_false, some_more, each_snoc, pick, both_hold}
-use Rattle.kt_prog.proofs.Matches.{HasRight, Suits, Found, LoopOk, FamiliesMatch, Agrees, looked}
-use Rattle.kt_prog.proofs.Values.{D, OwnAt, view_of, KeepsExpr, expr_keeps, forget}
+use Rattle.kt_prog.proofs.Matches.{HasRight, Found, FamiliesMatch, Agrees, looked}
+use Rattle.kt_prog.proofs.Values.{D, view_of, expr_keeps}
 
 never_object : (at place : Place) (kind : Option Kind) (more : Breaches) → wants_other at kind place ++ more ≡ [] → ⊥
 never_object at place None more h = cc
@@ -108,8 +108,8 @@ module _ (lost : Script → Script) (site : Site) (rights : List Access) (own : 
     one_good at want (E.Elem name place e) h =
         good_then _ H (IsRange want) (IsOne want) _ _ (many_found at place want (kind_of s name) (bound_of site locals name) (left_none _ _ h) (looked site rights own fam s locals name a)) (λ r f.
         good_then _ H (λ (n : ℕ). Unit {0}) (IsOne want) _ _ (number_good e (right_none _ _ h)) (λ i _.
-        good_then _ H (λ _. nat_lt (r.lo + i) r.hi ≡ true) (IsOne want) _ _ (good_test _ H _ F3 line) (λ _ lt.
-        let below : r.lo + i < r.hi = grind (arith, nat_tests) in
+        good_then _ H (λ _. nat_lt i (range_length r) ≡ true) (IsOne want) _ _ (good_test _ H _ F3 line) (λ _ lt.
+        let below : i < r.hi - r.lo = grind (arith, nat_tests) in
         good_give _ H (IsOne want) (r.lo + i) (cover f.0 want r.lo r.hi (r.lo + i) (r.lo + i + 1) f.1 f.3 (omega arith) (omega arith)))))
     one_good at want (E.Bin op x y) h = cc
 
@@ -118,10 +118,10 @@ module _ (lost : Script → Script) (site : Site) (rights : List Access) (own : 
         good_then _ H (IsRange want) (IsMany want) _ _ (many_found at place want (kind_of s name) (bound_of site locals name) (left_none _ _ (left_none _ _ h)) (looked site rights own fam s locals name a)) (λ r f.
         good_then _ H (λ (n : ℕ). Unit {0}) (IsMany want) _ _ (number_good x (right_none _ _ (left_none _ _ h))) (λ from _.
         good_then _ H (λ (n : ℕ). Unit {0}) (IsMany want) _ _ (number_good y (right_none _ _ h)) (λ to _.
-        good_then _ H (λ _. (nat_le from to && nat_le (r.lo + to) r.hi) ≡ true) (IsMany want) _ _ (good_test _ H _ F3 line) (λ _ lt.
-        let ends = both_hold (nat_le from to) (nat_le (r.lo + to) r.hi) lt in
+        good_then _ H (λ _. (nat_le from to && nat_le to (range_length r)) ≡ true) (IsMany want) _ _ (good_test _ H _ F3 line) (λ _ lt.
+        let ends = both_hold (nat_le from to) (nat_le to (range_length r)) lt in
         let first : from ≤ to = grind (arith, nat_tests, ends.0) in
-        let second : r.lo + to ≤ r.hi = grind (arith, nat_tests, ends.1) in
+        let second : to ≤ r.hi - r.lo = grind (arith, nat_tests, ends.1) in
         good_give _ H (IsMany want) (record { lo = r.lo + from; hi = r.lo + to })
         (omega arith, cover f.0 want r.lo r.hi (r.lo + from) (r.lo + to) f.1 f.3 (omega arith) (omega arith))))))
 
@@ -185,14 +185,14 @@ module _ (lost : Script → Script) (site : Site) (rights : List Access) (own : 
 
     -- a length that is allowed, and 0 where none is written
     abbrev pub IsLength : Option Expr → ℕ → Type 0
-    IsLength len n = (n ≤ 4096) × (is_some len ≡ false → n ≡ 0)
+    IsLength len n = (n ≤ LENGTH) × (is_some len ≡ false → n ≡ 0)
 
     length_good : (len : Option Expr) → length_rule s len ≡ [] → GoodAt (IsLength len) (length_step lost len v)
     length_good None h = good_give _ H (IsLength None) 0 (omega arith, λ e. refl)
     length_good (Some e) h =
         good_then _ H (λ (n : ℕ). Unit {0}) (IsLength (Some e)) _ _ (number_good e h) (λ n _.
-        good_then _ H (λ _. nat_le n 4096 ≡ true) (IsLength (Some e)) _ _ (good_test _ H _ F7 line) (λ _ lt.
-        let le : n ≤ 4096 = grind (arith, nat_tests) in
+        good_then _ H (λ _. nat_le n LENGTH ≡ true) (IsLength (Some e)) _ _ (good_test _ H _ F7 line) (λ _ lt.
+        let le : n ≤ LENGTH = grind (arith, nat_tests) in
         good_give _ H (IsLength (Some e)) n (le, λ f. cc)))
 
     none_formed : (loop : Bool) (len : Option Expr) → is_formed loop len ≡ true → loop ≡ false → is_some len ≡ false
@@ -220,16 +220,17 @@ module _ (lost : Script → Script) (site : Site) (rights : List Access) (own : 
           good_then _ H (Given_so objects room t.sorts []) (λ _. Unit {0}) _ _
           (arguments_good objects room t.sorts t.sorts args nothing_given same rules (record { fits = λ ints accesses r. r; covered = tt; inside = tt })) (λ g so.
           good_then _ H (λ _. not (clashes g.accesses) ≡ true) (λ _. Unit {0}) _ _ (good_test _ H _ F4 line) (λ _ apart.
-          good_then _ H (λ _. nat_lt site.depth 32 ≡ true) (λ _. Unit {0}) _ _ (good_test _ H _ F5 line) (λ _ deep.
-          let depth : site.depth < 32 = grind (arith, nat_tests) in
+          good_then _ H (λ _. nat_le (site.depth + 1) DEPTH ≡ true) (λ _. Unit {0}) _ _ (good_test _ H _ F5 line) (λ _ deep.
+          let depth : site.depth + 1 ≤ DEPTH = grind (arith, nat_tests) in
           good_fork _ H (Whole (child t v n g)) (hands none name t is (child t v n g) (record {
             number = refl;
             given = subst (λ (xs : List ℕ). AreGiven t.sorts xs g.accesses) (append-nil g.ints) (subst (λ (xs : List Access). AreGiven t.sorts (g.ints ++ []) xs) (append-nil g.accesses) (so.fits [] [] (refl, refl)));
             inside = so.inside;
-            unalike = not_true _ apart;
+            apart = not_true _ apart;
             long = long.0;
             formed = λ e. long.1 (none_formed t.is_loop len (not_false is_form formed) e);
-            deep = omega arith;
+            below_main = omega arith;
+            deep = depth;
           }) (omega arith) so.covered)))))
 
       pub fork_good : (name : List ℕ) (x : Option Target) (place : Place) (len : Option Expr) (args : List Arg) → own ≡ None → target_of site.tasks name ≡ x → fork_rule x place s len args ≡ [] → GoodAt (λ _. Unit {0}) (fork_named lost x len args v)

@@ -1,9 +1,9 @@
 -- Steps whose operations are allowed and whose value has a property.
-use Rattle.std.proofs.Common.{◌≡◌, ℕ, Bool, true, false, List, [], ◌∷◌, Option, Some, None, refl}
+use Rattle.std.proofs.Common.{◌≡◌, ℕ, Bool, true, false, refl}
 use Rattle.kt_law.specs.declared.faults.F.{F}
-use Rattle.kt_order.specs.Body.{Body, Keeps, Stop, Do, Fork}
+use Rattle.kt_order.specs.Body.{Keeps}
 use Rattle.kt_law.specs.Acts.{Act, Deed, Load}
-use Rattle.kt_prog.specs.Calls.{CallTree, Job}
+use Rattle.kt_prog.specs.Calls.{Job}
 use Rattle.kt_prog.specs.Script.{Script, Step, ◌>>=◌, give, stop, load, perform, fork, tested}
 
 module _ (D : Act → Type 0) (H : Job → Type 0) where

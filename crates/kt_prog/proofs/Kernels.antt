@@ -1,17 +1,19 @@
 -- The kernels keep to the rights.
-use Rattle.std.proofs.Common.{◌≡◌, ◌≤◌, ◌<◌, ℕ, zero, suc, ◌+◌, ◌-◌, ◌*◌, ◌/◌, ◌%◌, ◌^◌, Bool, true, false, ◌&&◌, List, [], ◌∷◌, ◌++◌, length, map, Option, Some, None, ◌⊎◌, inl, inr, refl, sym, ap, subst, arith, nat_le, ◌∙◌, get_or}
+use Rattle.std.proofs.Common.{◌≡◌, ◌≤◌, ◌<◌, ℕ, zero, suc, ◌+◌, ◌*◌, ◌/◌, ◌%◌, true, ◌&&◌, List, [], ◌∷◌, length, Some, None, inl, inr, refl, sym, ap, subst, arith, nat_le, nat_lt, slice_index}
 use Rattle.std.proofs.lemmas.Bool.Decides.{nat_tests}
+use Rattle.std.proofs.lemmas.List.FromFn.{length-map-range_with_len}
 use Rattle.kt_law.specs.Operators.{satadd_of}
-use Rattle.kt_law.specs.Acts.{Act, Deed, Load, Store, Fold}
+use Rattle.kt_law.specs.Acts.{Deed, Load, Store, Fold}
 use Rattle.kt_law.specs.declared.faults.F.TheVariants.{F2}
 use Rattle.kt_law.specs.declared.operators.Op.TheVariants.{Add, Min}
 use Rattle.kt_law.specs.declared.modes.Mode.{Mode}
 use Rattle.kt_law.specs.declared.modes.Mode.TheVariants.{R, W, X, Cw}
 use Rattle.kt_law.specs.declared.accesses.Access.{Access}
 use Rattle.kt_prog.specs.Calls.{Job}
-use Rattle.kt_prog.specs.Script.{Step, ◌>>=◌, give, load, perform, tested}
+use Rattle.kt_prog.specs.Script.{Step}
 use Rattle.kt_prog.specs.Objects.{width_of}
-use Rattle.kt_prog.specs.Kernels.{count_up, table, sum_below, least_below, mul_of, minplus_of, stencil_of, scan_of, load_all, perform_all, int, object, has, product, smooth, stencil_body, scan_body, kernel_body}
+use Rattle.kt_law.specs.PlainKernels.{tile, sum_below, least_below, mul_of, minplus_of, stencil_of, scan_of}
+use Rattle.kt_prog.specs.Kernels.{load_all, perform_all, object_at, is_side, has, product, smooth, stencil_body, scan_body, kernel_body}
 use Rattle.kt_prog.specs.Rights.{SomeOf, Permits, Allowed, lets}
 use Rattle.kt_prog.specs.Fits.{AreGiven, kernel_at}
 use Rattle.kt_prog.specs.Targets.{Target}
@@ -20,30 +22,20 @@ use Rattle.kt_prog.specs.declared.programs.Sort.TheVariants as S
 use Rattle.kt_prog.proofs.Good.{Good, good_give, good_then, good_test, good_load, good_perform}
 use Rattle.kt_prog.proofs.Lists.{both_hold, some_more}
 
-length-count : (from n : ℕ) → length (count_up from n) ≡ n
-length-count from zero = refl
-length-count from (suc n) = ap suc (length-count (suc from) n)
-
-length-mapped : {A B : Type 0} (f : A → B) (xs : List A) → length (map f xs) ≡ length xs
-length-mapped f [] = refl
-length-mapped f (x ∷ xs) = ap suc (length-mapped f xs)
-
-length-stencil : (left : ℕ) (row : List ℕ) (right : ℕ) → length (stencil_of left row right) ≡ length row
-length-stencil left [] right = refl
-length-stencil left (x ∷ row) right = ap suc (length-stencil x row right)
-
-length-scan : (row : List ℕ) (start : ℕ) → length (scan_of start row) ≡ length row
-length-scan [] start = refl
-length-scan (x ∷ row) start = ap suc (length-scan row ((start + x) % 2 ^ 64))
-
-length-table : (f : ℕ → ℕ → ℕ) (n q : ℕ) → length (table f n q) ≡ n * q
-length-table f n q = length-mapped _ (count_up 0 (n * q)) ∙ length-count 0 (n * q)
+length-tile : (f : ℕ → ℕ → ℕ) (n q : ℕ) → length (tile f n q) ≡ n * q
+length-tile f n q = length-map-range_with_len (λ e. f (e / q) (e % q)) 0 (n * q)
 
 length-mul : (n p q : ℕ) (xs ys : List ℕ) → length (mul_of n p q xs ys) ≡ n * q
-length-mul n p q xs ys = length-table (λ i j. sum_below (λ k. get_or xs (i * p + k) 0 * get_or ys (k * q + j) 0) p) n q
+length-mul n p q xs ys = length-tile (λ i j. sum_below (λ k. slice_index xs (i * p + k) * slice_index ys (k * q + j)) p) n q
 
 length-minplus : (n p q : ℕ) (xs ys : List ℕ) → length (minplus_of n p q xs ys) ≡ n * q
-length-minplus n p q xs ys = length-table (λ i j. least_below (λ k. satadd_of (get_or xs (i * p + k) 0) (get_or ys (k * q + j) 0)) p) n q
+length-minplus n p q xs ys = length-tile (λ i j. least_below (λ k. satadd_of (slice_index xs (i * p + k)) (slice_index ys (k * q + j))) p) n q
+
+length-stencil : (left : ℕ) (row : List ℕ) (right : ℕ) → length (stencil_of left row right) ≡ length row
+length-stencil left row right = length-map-range_with_len _ 0 (length row)
+
+length-scan : (row : List ℕ) (start : ℕ) → length (scan_of start row) ≡ length row
+length-scan row start = length-map-range_with_len _ 0 (length row)
 
 module _ (families : List Family) (rights : List Access) (H : Job → Type 0) where
   abbrev GoodAt : {A : Type 0} → (A → Type 0) → Step A → Type 0
@@ -56,8 +48,11 @@ module _ (families : List Family) (rights : List Access) (H : Job → Type 0) wh
   Has mode o = SomeOf (λ (a : Access). (a.lo ≤ o) × (suc o ≤ a.hi) × (a.mode ≡ mode)) rights
 
   may : (mode : Mode) (o e : ℕ) (deed : Deed) → lets mode deed ≡ true → e < width_of families o → Has mode o → Allowed families rights None (record { object = o; element = e; deed = deed })
-  may mode o e deed l lt h = (lt, some_more (λ (a : Access). (a.lo ≤ o) × (suc o ≤ a.hi) × (a.mode ≡ mode)) (Permits None (record { object = o; element = e; deed = deed }))
-      (λ a x. (x.0, omega arith, subst (λ (m : Mode). lets m deed ≡ true) (sym x.2) l, tt)) rights h)
+  may mode o e deed l lt h = (
+    lt,
+    some_more (λ (a : Access). (a.lo ≤ o) × (suc o ≤ a.hi) × (a.mode ≡ mode)) (Permits None (record { object = o; element = e; deed = deed }))
+        (λ a x. (x.0, omega arith, subst (λ (m : Mode). lets m deed ≡ true) (sym x.2) l, tt)) rights h,
+  )
 
   loads_good : (mode : Mode) (o from n : ℕ) → lets mode Load ≡ true → Has mode o → from + n ≤ width_of families o → GoodAt (λ xs. length xs ≡ n) (load_all o from n)
   loads_good mode o from zero l h le = good_give _ H (λ xs. length xs ≡ 0) [] refl
@@ -79,7 +74,7 @@ module _ (families : List Family) (rights : List Access) (H : Job → Type 0) wh
 
   product_good : (f : ℕ → ℕ → ℕ → List ℕ → List ℕ → List ℕ) (deed : ℕ → Deed) (mode : Mode) (n p q a b c : ℕ) → ((xs ys : List ℕ) → length (f n p q xs ys) ≡ n * q) → ((x : ℕ) → lets mode (deed x) ≡ true) → Has R a → Has R b → Has mode c → GoodAt Nothing (product families f deed n p q a b c)
   product_good f deed mode n p q a b c long l ra rb rc =
-      let t1 = nat_le n 4096 && nat_le p 4096 && nat_le q 4096 in
+      let t1 = is_side n && is_side p && is_side q in
       let t2 = has families a (n * p) in
       let t3 = has families b (p * q) in
       let t4 = has families c (n * q) in
@@ -103,7 +98,7 @@ module _ (families : List Family) (rights : List Access) (H : Job → Type 0) wh
 
   stencil_good : (n l a r b : ℕ) → Has R l → Has R a → Has R r → Has W b → GoodAt Nothing (stencil_body families n l a r b)
   stencil_good n l a r b hl ha hr hb =
-      let t1 = nat_le n 4096 in
+      let t1 = is_side n in
       let t2 = has families l n in
       let t3 = has families a n in
       let t4 = has families r n in
@@ -121,14 +116,14 @@ module _ (families : List Family) (rights : List Access) (H : Job → Type 0) wh
 
   scan_good : (n t s a : ℕ) → Has R s → Has X a → GoodAt Nothing (scan_body families n t s a)
   scan_good n t s a hs ha =
-      let t1 = nat_le n 4096 in
+      let t1 = is_side n in
       let t2 = has families a n in
-      let t3 = has families s (suc t) in
+      let t3 = nat_lt t (width_of families s) in
       good_then _ H (λ _. (t1 && t2 && t3) ≡ true) Nothing _ _ (good_test _ H _ F2 0) (λ _ h.
       let e3 = both_hold (t1 && t2) t3 h in
       let e2 = both_hold t1 t2 e3.0 in
-      let ws : 0 + suc t ≤ width_of families s = has_room s (suc t) e3.1 in
-      let below : t < width_of families s = omega arith in
+      let test : nat_lt t (width_of families s) ≡ true = e3.1 in
+      let below : t < width_of families s = grind (arith, nat_tests) in
       good_then _ H (λ (x : ℕ). Unit {0}) Nothing _ _ (good_load _ H s t (may R s t Load refl below hs)) (λ start _.
       good_then _ H (λ xs. length xs ≡ n) Nothing _ _ (loads_good X a 0 n refl ha (has_room a n e2.1)) (λ row e.
       performs_good X Store a 0 (scan_of start row) (λ x. refl) ha (rw (length-scan row start, e) (has_room a n e2.1)))))
@@ -140,20 +135,20 @@ HasOf accesses mode o = SomeOf (λ (a : Access). (a.lo ≤ o) × (suc o ≤ a.hi
 own_first : (a : Access) (mode : Mode) → a.mode ≡ mode → a.hi ≡ a.lo + 1 → (a.lo ≤ a.lo) × (suc a.lo ≤ a.hi) × (a.mode ≡ mode)
 own_first a mode m e = (omega arith, omega (arith, e), m)
 
-products : (m : Mode) (ints : List ℕ) (accesses : List Access) → AreGiven (S.Int ∷ S.Int ∷ S.Int ∷ S.One R ∷ S.One R ∷ S.One m ∷ []) ints accesses → HasOf accesses R (object accesses 0) × HasOf accesses R (object accesses 1) × HasOf accesses m (object accesses 2)
+products : (m : Mode) (ints : List ℕ) (accesses : List Access) → AreGiven (S.Int ∷ S.Int ∷ S.Int ∷ S.One R ∷ S.One R ∷ S.One m ∷ []) ints accesses → HasOf accesses R (object_at accesses 0) × HasOf accesses R (object_at accesses 1) × HasOf accesses m (object_at accesses 2)
 products m (n ∷ p ∷ q ∷ ints) (a ∷ b ∷ c ∷ more) h = (inl (own_first a R h.0 h.1), inr (inl (own_first b R h.2.0 h.2.1)), inr (inr (inl (own_first c m h.2.2.0 h.2.2.1))))
 products m (n ∷ p ∷ q ∷ ints) (a ∷ []) h = absurd h.2
 products m (n ∷ p ∷ q ∷ ints) (a ∷ b ∷ []) h = absurd h.2.2
 products m ints accesses h = absurd h
 
-stencils : (ints : List ℕ) (accesses : List Access) → AreGiven (S.Int ∷ S.One R ∷ S.One R ∷ S.One R ∷ S.One W ∷ []) ints accesses → HasOf accesses R (object accesses 0) × HasOf accesses R (object accesses 1) × HasOf accesses R (object accesses 2) × HasOf accesses W (object accesses 3)
+stencils : (ints : List ℕ) (accesses : List Access) → AreGiven (S.Int ∷ S.One R ∷ S.One R ∷ S.One R ∷ S.One W ∷ []) ints accesses → HasOf accesses R (object_at accesses 0) × HasOf accesses R (object_at accesses 1) × HasOf accesses R (object_at accesses 2) × HasOf accesses W (object_at accesses 3)
 stencils (n ∷ ints) (a ∷ b ∷ c ∷ d ∷ more) h = (inl (own_first a R h.0 h.1), inr (inl (own_first b R h.2.0 h.2.1)), inr (inr (inl (own_first c R h.2.2.0 h.2.2.1))), inr (inr (inr (inl (own_first d W h.2.2.2.0 h.2.2.2.1)))))
 stencils (n ∷ ints) (a ∷ []) h = absurd h.2
 stencils (n ∷ ints) (a ∷ b ∷ []) h = absurd h.2.2
 stencils (n ∷ ints) (a ∷ b ∷ c ∷ []) h = absurd h.2.2.2
 stencils ints accesses h = absurd h
 
-scans : (ints : List ℕ) (accesses : List Access) → AreGiven (S.Int ∷ S.Int ∷ S.One R ∷ S.One X ∷ []) ints accesses → HasOf accesses R (object accesses 0) × HasOf accesses X (object accesses 1)
+scans : (ints : List ℕ) (accesses : List Access) → AreGiven (S.Int ∷ S.Int ∷ S.One R ∷ S.One X ∷ []) ints accesses → HasOf accesses R (object_at accesses 0) × HasOf accesses X (object_at accesses 1)
 scans (n ∷ t ∷ ints) (a ∷ b ∷ more) h = (inl (own_first a R h.0 h.1), inr (inl (own_first b X h.2.0 h.2.1)))
 scans (n ∷ t ∷ ints) (a ∷ []) h = absurd h.2
 scans ints accesses h = absurd h
@@ -166,14 +161,14 @@ module _ (families : List Family) (H : Job → Type 0) where
   pub kernel_good : (k : ℕ) (ints : List ℕ) (accesses : List Access) (t : Target) → kernel_at k ≡ Some t → AreGiven t.sorts ints accesses → Good (Allowed families accesses None) H (λ _. Unit {0}) (kernel_body families k ints accesses)
   kernel_good zero ints accesses t is given =
       let r = products (Cw Add) ints accesses (subst (λ (y : Target). AreGiven y.sorts ints accesses) (sym (some_is is)) given) in
-      product_good families accesses H mul_of (Fold Add) (Cw Add) (int ints 0) (int ints 1) (int ints 2) _ _ _ (length-mul (int ints 0) (int ints 1) (int ints 2)) (λ x. refl) r.0 r.1 r.2
+      product_good families accesses H mul_of (Fold Add) (Cw Add) (slice_index ints 0) (slice_index ints 1) (slice_index ints 2) _ _ _ (length-mul (slice_index ints 0) (slice_index ints 1) (slice_index ints 2)) (λ x. refl) r.0 r.1 r.2
   kernel_good (suc zero) ints accesses t is given =
       let r = products (Cw Min) ints accesses (subst (λ (y : Target). AreGiven y.sorts ints accesses) (sym (some_is is)) given) in
-      product_good families accesses H minplus_of (Fold Min) (Cw Min) (int ints 0) (int ints 1) (int ints 2) _ _ _ (length-minplus (int ints 0) (int ints 1) (int ints 2)) (λ x. refl) r.0 r.1 r.2
+      product_good families accesses H minplus_of (Fold Min) (Cw Min) (slice_index ints 0) (slice_index ints 1) (slice_index ints 2) _ _ _ (length-minplus (slice_index ints 0) (slice_index ints 1) (slice_index ints 2)) (λ x. refl) r.0 r.1 r.2
   kernel_good (suc (suc zero)) ints accesses t is given =
       let r = stencils ints accesses (subst (λ (y : Target). AreGiven y.sorts ints accesses) (sym (some_is is)) given) in
-      stencil_good families accesses H (int ints 0) _ _ _ _ r.0 r.1 r.2 r.3
+      stencil_good families accesses H (slice_index ints 0) _ _ _ _ r.0 r.1 r.2 r.3
   kernel_good (suc (suc (suc zero))) ints accesses t is given =
       let r = scans ints accesses (subst (λ (y : Target). AreGiven y.sorts ints accesses) (sym (some_is is)) given) in
-      scan_good families accesses H (int ints 0) (int ints 1) _ _ r.0 r.1
+      scan_good families accesses H (slice_index ints 0) (slice_index ints 1) _ _ r.0 r.1
   kernel_good (suc (suc (suc (suc k)))) ints accesses t is given = cc

@@ -1,9 +1,9 @@
 -- Lists of breaches that are empty, and accesses among others.
-use Rattle.std.proofs.Common.{◌≡◌, ℕ, Bool, true, false, not, ◌&&◌, ◌||◌, List, [], ◌∷◌, ◌++◌, ◌⊎◌, inl, inr, refl, sym, ap}
+use Rattle.std.proofs.Common.{◌≡◌, Bool, true, false, not, ◌&&◌, ◌||◌, List, [], ◌∷◌, ◌++◌, inl, inr, refl}
 use Rattle.kt_law.specs.declared.places.P.{P}
 use Rattle.kt_law.specs.declared.places.Place.{Place}
 use Rattle.kt_law.specs.declared.accesses.Access.{Access}
-use Rattle.kt_prog.specs.Rules.{Breaches, denied}
+use Rattle.kt_prog.specs.Rules.{denied}
 use Rattle.kt_prog.specs.Rights.{SomeOf}
 use Rattle.kt_prog.specs.Fits.{EachOf}
 

@@ -1,16 +1,15 @@
 -- What the names stand for while a body runs is what the rules take them for.
-use Rattle.std.proofs.Common.{◌≡◌, ◌≤◌, ◌<◌, ℕ, zero, suc, ◌+◌, Bool, true, false, List, [], ◌∷◌, ◌++◌, length, take, Option, Some, None, ◌⊎◌, inl, inr, refl, sym, ap, subst, arith, if◌then◌else◌}
+use Rattle.std.proofs.Common.{◌≡◌, ◌≤◌, ℕ, suc, ◌+◌, Bool, true, false, List, [], ◌∷◌, ◌++◌, length, Option, Some, None, refl, ap, subst, if◌then◌else◌}
 use Rattle.std.specs.Str.{bytes_eq}
+use Rattle.kt_law.specs.declared.limits.TheConstants.{ACCESSES, INTS}
 use Rattle.kt_law.specs.declared.modes.Mode.{Mode}
-use Rattle.kt_law.specs.declared.modes.Mode.TheVariants.{Xp}
 use Rattle.kt_law.specs.declared.accesses.Access.{Access}
-use Rattle.kt_prog.specs.Locals.{Site, local_of, family_of, bound_family, bound_of, or_else}
-use Rattle.kt_prog.specs.Scope.{Scope, known_of, kind_family, family_known, kind_of, with_name}
+use Rattle.kt_prog.specs.Locals.{Site, local_of, family_of, bound_of, or_else}
+use Rattle.kt_prog.specs.Scope.{Scope, known_of, family_known, kind_of}
 use Rattle.kt_prog.specs.declared.sight.Known.{Known}
 use Rattle.kt_prog.specs.declared.sight.Kind.TheVariants.{Number, Variable, Index, One, Many}
 use Rattle.kt_prog.specs.declared.sight.Kind.{Kind}
 use Rattle.kt_prog.specs.Rights.{SomeOf}
-use Rattle.kt_prog.specs.declared.programs.Family.{Family}
 use Rattle.kt_prog.specs.declared.scope.Local.{Local}
 use Rattle.kt_prog.specs.declared.scope.Bound.{Bound}
 use Rattle.kt_prog.specs.declared.scope.Bound.TheVariants as B
@@ -65,7 +64,7 @@ module _ (site : Site) (rights : List Access) (own : Option ℕ) where
     pub loop : LoopOk own s.in_loop
     pub names : Matches s.names locals
     -- parameters and an index, and the names of statements
-    pub room : length s.names ≤ 17 + s.lets
+    pub room : length s.names ≤ 1 + INTS + ACCESSES + s.lets
 
   found_else : (x : Option Kind) (y : Option Bound) (x' : Option Kind) (y' : Option Bound) → Found x y → Found x' y' → Found (or_else x x') (or_else y y')
   found_else None None x' y' f g = g

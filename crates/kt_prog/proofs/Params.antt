@@ -1,6 +1,7 @@
 -- The parameters stand for what a call gives them.
-use Rattle.std.proofs.Common.{◌≡◌, ◌≤◌, ◌<◌, ℕ, zero, suc, ◌+◌, Bool, true, false, List, [], ◌∷◌, ◌++◌, length, map, Option, Some, None, ◌⊎◌, inl, inr, refl, sym, ap, subst, arith, nat_le, is_some}
+use Rattle.std.proofs.Common.{◌≡◌, ◌≤◌, ℕ, suc, ◌+◌, Bool, true, false, List, [], ◌∷◌, ◌++◌, length, map, Option, inl, inr, refl, sym, subst, arith, is_some, nat_eq}
 use Rattle.std.proofs.lemmas.Bool.Decides.{nat_tests}
+use Rattle.kt_law.specs.declared.limits.TheConstants.{ACCESSES, INTS}
 use Rattle.kt_law.specs.Modes.{is_postponed}
 use Rattle.kt_law.specs.declared.places.P.TheVariants.{P5, P11, P12}
 use Rattle.kt_law.specs.declared.accesses.Access.{Access}
@@ -8,8 +9,7 @@ use Rattle.kt_law.specs.declared.modes.Mode.{Mode}
 use Rattle.kt_prog.specs.Locals.{Site, given_one, given}
 use Rattle.kt_prog.specs.Scope.{kind_sort, known_param, known_of}
 use Rattle.kt_prog.specs.declared.sight.Known.{Known}
-use Rattle.kt_prog.specs.declared.sight.Kind.{Kind}
-use Rattle.kt_prog.specs.Rules.{Breaches, denied}
+use Rattle.kt_prog.specs.Rules.{denied}
 use Rattle.kt_prog.specs.Declarations.{Counts, sort_rule, counted, param_rules}
 use Rattle.kt_prog.specs.Rights.{SomeOf}
 use Rattle.kt_prog.specs.Fits.{EachOf, GivenOne, AreGiven}
@@ -44,21 +44,21 @@ module _ (site : Site) (rights : List Access) (own : Option ℕ) where
       one_given p.name p.sort ints accesses (AreGiven (map (λ (q : Param). q.sort) params)) (map known_param params) (given params) among (λ ints' accesses' among' r. params_given params ints' accesses' among' r) h
 
 -- at most 8 ints and 8 objects
-sort_room : (in_loop : Bool) (c : Counts) (p : Param) (sort : Sort) → sort_rule in_loop c p sort ≡ [] → c.ints ≤ 8 → c.objects ≤ 8 → ((counted c sort).ints ≤ 8) × ((counted c sort).objects ≤ 8) × ((counted c sort).ints + (counted c sort).objects ≡ suc (c.ints + c.objects))
+sort_room : (in_loop : Bool) (c : Counts) (p : Param) (sort : Sort) → sort_rule in_loop c p sort ≡ [] → c.ints ≤ INTS → c.objects ≤ ACCESSES → ((counted c sort).ints ≤ INTS) × ((counted c sort).objects ≤ ACCESSES) × ((counted c sort).ints + (counted c sort).objects ≡ suc (c.ints + c.objects))
 sort_room in_loop c p S.Int h i o =
-    let few : nat_le 8 c.ints ≡ false = not_denied p.name_place P12 (nat_le 8 c.ints) h in
-    let less : suc c.ints ≤ 8 = grind (arith, nat_tests) in
+    let few : nat_eq c.ints INTS ≡ false = not_denied p.name_place P12 (nat_eq c.ints INTS) h in
+    let less : suc c.ints ≤ INTS = grind (arith, nat_tests) in
     (less, o, omega arith)
 sort_room in_loop c p (S.One mode) h i o =
-    let few : nat_le 8 c.objects ≡ false = not_denied p.name_place P12 (nat_le 8 c.objects) (right_none (denied p.place P11 _) (denied p.name_place P12 (nat_le 8 c.objects)) h) in
-    let less : suc c.objects ≤ 8 = grind (arith, nat_tests) in
+    let few : nat_eq c.objects ACCESSES ≡ false = not_denied p.name_place P12 (nat_eq c.objects ACCESSES) (right_none (denied p.place P11 _) (denied p.name_place P12 (nat_eq c.objects ACCESSES)) h) in
+    let less : suc c.objects ≤ ACCESSES = grind (arith, nat_tests) in
     (i, less, omega arith)
 sort_room in_loop c p (S.Many mode) h i o =
-    let few : nat_le 8 c.objects ≡ false = not_denied p.name_place P12 (nat_le 8 c.objects) (right_none (denied p.place P11 _) (denied p.name_place P12 (nat_le 8 c.objects)) h) in
-    let less : suc c.objects ≤ 8 = grind (arith, nat_tests) in
+    let few : nat_eq c.objects ACCESSES ≡ false = not_denied p.name_place P12 (nat_eq c.objects ACCESSES) (right_none (denied p.place P11 _) (denied p.name_place P12 (nat_eq c.objects ACCESSES)) h) in
+    let less : suc c.objects ≤ ACCESSES = grind (arith, nat_tests) in
     (i, less, omega arith)
 
-pub params_room : (in_loop : Bool) (before : List Known) (c : Counts) (params : List Param) → param_rules in_loop before c params ≡ [] → c.ints ≤ 8 → c.objects ≤ 8 → c.ints + c.objects + length params ≤ 16
+pub params_room : (in_loop : Bool) (before : List Known) (c : Counts) (params : List Param) → param_rules in_loop before c params ≡ [] → c.ints ≤ INTS → c.objects ≤ ACCESSES → c.ints + c.objects + length params ≤ INTS + ACCESSES
 params_room in_loop before c [] h i o = omega arith
 params_room in_loop before c (p ∷ params) h i o =
     let sorts = sort_rule in_loop c p p.sort in
@@ -79,11 +79,11 @@ direct_one c p S.Int [] accesses Rest h each g = absurd g
 direct_one c p S.Int (n ∷ ints) accesses Rest h each g = each ints accesses g
 direct_one c p (S.One mode) ints [] Rest h each g = absurd g
 direct_one c p (S.One mode) ints (a ∷ accesses) Rest h each g =
-    let direct : is_postponed mode ≡ false = not_denied p.place P11 (is_postponed mode) (left_none (denied p.place P11 (is_postponed mode)) (denied p.name_place P12 (nat_le 8 c.objects)) h) in
+    let direct : is_postponed mode ≡ false = not_denied p.place P11 (is_postponed mode) (left_none (denied p.place P11 (is_postponed mode)) (denied p.name_place P12 (nat_eq c.objects ACCESSES)) h) in
     (subst (λ (m : Mode). is_postponed m ≡ false) (sym g.0) direct, each ints accesses g.2)
 direct_one c p (S.Many mode) ints [] Rest h each g = absurd g
 direct_one c p (S.Many mode) ints (a ∷ accesses) Rest h each g =
-    let direct : is_postponed mode ≡ false = not_denied p.place P11 (is_postponed mode) (left_none (denied p.place P11 (is_postponed mode)) (denied p.name_place P12 (nat_le 8 c.objects)) h) in
+    let direct : is_postponed mode ≡ false = not_denied p.place P11 (is_postponed mode) (left_none (denied p.place P11 (is_postponed mode)) (denied p.name_place P12 (nat_eq c.objects ACCESSES)) h) in
     (subst (λ (m : Mode). is_postponed m ≡ false) (sym g.0) direct, each ints accesses g.2)
 
 pub params_direct : (params : List Param) (before : List Known) (c : Counts) (ints : List ℕ) (accesses : List Access) → param_rules true before c params ≡ [] → AreGiven (map (λ (q : Param). q.sort) params) ints accesses → EachOf IsDirect accesses

@@ -1,51 +1,45 @@
 -- The bodies of an accepted program keep to the rights of their calls.
-use Rattle.std.proofs.Common.{◌≡◌, ◌≤◌, ◌<◌, ℕ, zero, suc, ◌+◌, ◌-◌, Bool, true, false, List, [], ◌∷◌, ◌++◌, length, map, Option, Some, None, ◌⊎◌, inl, inr, refl, sym, ap, subst, arith, nat_lt, if◌then◌else◌}
-use Rattle.std.proofs.lemmas.Bool.Decides.{nat_tests}
+use Rattle.std.proofs.Common.{◌≡◌, ◌≤◌, ◌<◌, ℕ, zero, suc, ◌+◌, ◌-◌, Bool, true, false, List, [], ◌∷◌, ◌++◌, length, map, Option, Some, None, refl, sym, ap, subst, arith, nat_lt, if◌then◌else◌}
 use Rattle.kt_order.specs.Body.{Keeps, Stop}
+use Rattle.kt_law.specs.declared.limits.TheConstants.{ACCESSES, DEFINITIONS, ELEMENTS, INTS, OBJECTS, STEPS}
 use Rattle.kt_law.specs.Acts.{Act}
 use Rattle.kt_law.specs.declared.accesses.Access.{Access}
 use Rattle.kt_prog.specs.Calls.{CallTree, Job, Whole, Index}
-use Rattle.kt_prog.specs.Script.{Script, Step, ◌>>=◌, ◌>>◌, give, fork}
-use Rattle.kt_prog.specs.Locals.{Site, given, family_of}
-use Rattle.kt_prog.specs.Objects.{objects_of}
+use Rattle.kt_prog.specs.Script.{Script}
+use Rattle.kt_prog.specs.Locals.{given}
+use Rattle.kt_prog.specs.Objects.{objects_of, elements_of}
 use Rattle.kt_prog.specs.Targets.{Target, target, target_of, is_loop_of}
-use Rattle.kt_prog.specs.Statements.{State, block, stmt_of}
-use Rattle.kt_prog.specs.Bodies.{statements, site_of, task_body, main_body, named_index, index_body, task_at, indexes, task_or_loop, index_in, call_body, job_body, script_with}
-use Rattle.kt_prog.specs.Zeroing.{zero_all}
+use Rattle.kt_prog.specs.Bodies.{statements, site_of, task_body, main_body, with_index, index_body, task_at, indexes, task_or_loop, index_in, call_body, job_body, script_with}
 use Rattle.kt_prog.specs.Kernels.{kernel_body}
-use Rattle.kt_prog.specs.Scope.{Scope, family_known, known_param, known_index}
+use Rattle.kt_prog.specs.Scope.{Scope, known_param, known_index}
 use Rattle.kt_prog.specs.declared.sight.Known.{Known}
-use Rattle.kt_prog.specs.Scope as K
-use Rattle.kt_prog.specs.Rules.{Breaches}
 use Rattle.kt_prog.specs.StatementRules.{block_rules, rules_of_stmt}
 use Rattle.kt_prog.specs.Declarations.{declared_in, names_twice, main_rules, family_rules, count_rules, param_rules}
 use Rattle.kt_prog.specs.Accepted.{task_scope, main_scope, task_rules, mains_rules, broken, IsAccepted}
-use Rattle.kt_prog.specs.Rights.{SomeOf, Covers, Permits, Allowed, HandsOn, rights_at, rights_of, Directly, Forks}
-use Rattle.kt_prog.specs.Fits.{EachOf, AreGiven, Inside, FitsTarget, target_at, task_target, kernel_at, Fits, is_main, is_call, FitsJob}
+use Rattle.kt_prog.specs.Rights.{SomeOf, Covers, Allowed, HandsOn, rights_at, rights_of, Directly, Forks}
+use Rattle.kt_prog.specs.Fits.{EachOf, Inside, FitsTarget, target_at, task_target, kernel_at, Fits, is_main, is_call, FitsJob}
 use Rattle.kt_prog.specs.declared.scope.Local.{Local}
-use Rattle.kt_prog.specs.declared.scope.Bound.TheVariants as B
 use Rattle.kt_prog.specs.declared.programs.Program.{Program}
 use Rattle.kt_prog.specs.declared.programs.Task.{Task}
 use Rattle.kt_prog.specs.declared.programs.Main.{Main}
 use Rattle.kt_prog.specs.declared.programs.Param.{Param}
 use Rattle.kt_prog.specs.declared.programs.Index as I
-use Rattle.kt_prog.specs.declared.programs.Family.{Family}
 use Rattle.kt_prog.specs.declared.programs.Stmt.{Stmt}
 use Rattle.kt_prog.proofs.Good.{Good, good_give, good_then, good_fork}
 use Rattle.kt_prog.proofs.Lists.{left_none, right_none}
-use Rattle.kt_prog.proofs.Matches.{FamiliesMatch, LoopOk, Agrees, Matches}
-use Rattle.kt_prog.proofs.Scopes.{Begins}
+use Rattle.kt_prog.proofs.Matches.{FamiliesMatch, Agrees, Matches}
 use Rattle.kt_prog.proofs.Statements.{body_keeps, Ends}
-use Rattle.kt_prog.proofs.Targets.{few_tasks, target_is, task_of, TaskOf}
-use Rattle.kt_prog.proofs.Params.{Among, params_given, params_room}
-use Rattle.kt_prog.proofs.Families.{AllThere, all_there, main_rights, families_found}
+use Rattle.kt_prog.proofs.Targets.{few_tasks, target_is, task_of}
+use Rattle.kt_prog.proofs.Params.{params_given, params_room}
+use Rattle.kt_prog.proofs.Families.{AllThere, all_there, limits_kept, families_found}
 use Rattle.kt_prog.proofs.Zeros.{zeros_all}
 use Rattle.kt_prog.proofs.Kernels.{kernel_good}
 
 -- the breaches of an accepted program's parts
 pub record Parts (p : Program) : Type 0 where
   pub families : AllThere p.families
-  pub few : length p.tasks ≤ 1024
+  pub small : (objects_of p.families ≤ OBJECTS) × (elements_of p.families ≤ ELEMENTS)
+  pub few : length p.tasks ≤ DEFINITIONS
   pub tasks : task_rules p p.tasks ≡ []
   pub mains : mains_rules p p.mains ≡ []
   pub main : main_rules p.end p.mains ≡ []
@@ -62,7 +56,11 @@ parts p h =
     let e5 : twice ++ main ++ families ++ counts ++ tasks ≡ [] = left_none (twice ++ main ++ families ++ counts ++ tasks) mains h in
     let e4 : twice ++ main ++ families ++ counts ≡ [] = left_none (twice ++ main ++ families ++ counts) tasks e5 in
     let e3 : twice ++ main ++ families ≡ [] = left_none (twice ++ main ++ families) counts e4 in
+    let limits = limits_kept p.families 0 0 (right_none (twice ++ main) families e3) (omega arith) (omega arith) in
+    let objects : 0 + objects_of p.families ≤ OBJECTS = limits.0 in
+    let elements : 0 + elements_of p.families ≤ ELEMENTS = limits.1 in
     record {
+      small = (omega arith, omega arith);
       families = all_there p.families 0 0 (right_none (twice ++ main) families e3);
       few = omega (arith, few_tasks p.tasks 0 (right_none (twice ++ main ++ families) counts e4) (omega arith));
       tasks = right_none (twice ++ main ++ families ++ counts) tasks e5;
@@ -123,7 +121,7 @@ module _ (lost : Script → Script) (p : Program) (ok : Parts p) where
       let names = params_given site call.accesses None t.params call.ints call.accesses (λ P x. x) fits.given in
       let start = known_index t.index ++ map known_param t.params in
       let same : start ≡ map known_param t.params = ap (λ (i : Option I.Index). known_index i ++ map known_param t.params) none in
-      let room : length (map known_param t.params) ≤ 17 + 0 = omega (arith, few, count) in
+      let room : length (map known_param t.params) ≤ 1 + INTS + ACCESSES + 0 = omega (arith, few, count) in
       statements_good call.accesses call.depth None H (λ child _ h. on child h) fits.inside false (λ e. cc) (task_scope p t) (given t.params call.ints call.accesses) t.body
       (record {
         families = refl;
@@ -131,7 +129,7 @@ module _ (lost : Script → Script) (p : Program) (ok : Parts p) where
         in_main = refl;
         loop = tt;
         names = subst (λ (names : List Known). Matches site call.accesses None names (given t.params call.ints call.accesses)) (sym same) names;
-        room = subst (λ (names : List Known). length names ≤ 17 + 0) (sym same) room;
+        room = subst (λ (names : List Known). length names ≤ 1 + INTS + ACCESSES + 0) (sym same) room;
       }) r.body
 
   loop_index : (index : Option I.Index) (length : ℕ) (i : ℕ) → i < length → (is_loop_of index ≡ false → length ≡ 0) → (x : I.Index) × (index ≡ Some x)
@@ -146,17 +144,18 @@ module _ (lost : Script → Script) (p : Program) (ok : Parts p) where
       let few = params_room (is_loop_of t.index) (known_index t.index) (record { ints = 0; objects = 0 }) t.params r.params (omega arith) (omega arith) in
       let count : length (map known_param t.params) ≡ length t.params = length-known t.params in
       let names = params_given site call.accesses (Some i) t.params call.ints call.accesses (λ P x. x) fits.given in
-      let locals = record { name = named_index t.index; bound = B.Number i } ∷ given t.params call.ints call.accesses in
-      let begun : Matches site call.accesses (Some i) (known_index (Some loop.0) ++ map known_param t.params) (record { name = named_index (Some loop.0); bound = B.Number i } ∷ given t.params call.ints call.accesses) = (refl, refl, names) in
-      let room : suc (length (map known_param t.params)) ≤ 17 + 0 = omega (arith, few, count) in
+      let start = given t.params call.ints call.accesses in
+      let locals = with_index t.index i start in
+      let begun : Matches site call.accesses (Some i) (known_index (Some loop.0) ++ map known_param t.params) (with_index (Some loop.0) i start) = (refl, refl, names) in
+      let room : suc (length (map known_param t.params)) ≤ 1 + INTS + ACCESSES + 0 = omega (arith, few, count) in
       statements_good call.accesses call.depth (Some i) H (λ child none h. cc) fits.inside false (λ e. cc) (task_scope p t) locals t.body
       (record {
         families = refl;
         tasks = refl;
         in_main = refl;
         loop = ap is_loop_of loop.1;
-        names = subst (λ (x : Option I.Index). Matches site call.accesses (Some i) (known_index x ++ map known_param t.params) (record { name = named_index x; bound = B.Number i } ∷ given t.params call.ints call.accesses)) (sym loop.1) begun;
-        room = subst (λ (x : Option I.Index). length (known_index x ++ map known_param t.params) ≤ 17 + 0) (sym loop.1) room;
+        names = subst (λ (x : Option I.Index). Matches site call.accesses (Some i) (known_index x ++ map known_param t.params) (with_index x i start)) (sym loop.1) begun;
+        room = subst (λ (x : Option I.Index). length (known_index x ++ map known_param t.params) ≤ 1 + INTS + ACCESSES + 0) (sym loop.1) room;
       }) r.body
 
   main_good : (mains : List Main) (H : Job → Type 0) → main_rules p.end mains ≡ [] → mains_rules p mains ≡ [] → ((child : CallTree) → HandsOn p (rights_at (objects_of p.families) [] 0) 0 child → H (Whole child))
@@ -184,22 +183,23 @@ module _ (lost : Script → Script) (p : Program) (ok : Parts p) where
 
   numbered_good : (call : CallTree) (k : ℕ) (t : Target) → call.task ≡ suc k → target_at p.tasks (suc k) ≡ Some t → FitsTarget (objects_of p.families) call t
       → Good (Allowed p.families call.accesses None) (Forks p (Whole call)) Nothing (call_body lost p call (suc k))
-  numbered_good call k t e is fits = chosen (nat_lt k 1024) (task_target p.tasks 1 k) (kernel_at (k - 1024)) is
+  numbered_good call k t e is fits = chosen (nat_lt k DEFINITIONS) (task_target p.tasks 1 k) (kernel_at (k - DEFINITIONS)) is
       (λ f. let u = task_of p.tasks 1 k t f in
-          subst (λ (y : Option Task). Good (Allowed p.families call.accesses None) (Forks p (Whole call)) Nothing (task_or_loop lost p call y (index_in y))) (sym u.at)
-          (body_good call u.task (1 + k) u.task.index refl (rules_at p.tasks k u.task ok.tasks u.at) (subst (λ (y : Target). FitsTarget (objects_of p.families) call y) u.is fits) (ap (rights_at (objects_of p.families) call.accesses) e)))
-      (λ f. kernel_good p.families (Forks p (Whole call)) (k - 1024) call.ints call.accesses t f fits.given)
+      subst (λ (y : Option Task). Good (Allowed p.families call.accesses None) (Forks p (Whole call)) Nothing (task_or_loop lost p call y (index_in y))) (sym u.at)
+      (body_good call u.task (1 + k) u.task.index refl (rules_at p.tasks k u.task ok.tasks u.at) (subst (λ (y : Target). FitsTarget (objects_of p.families) call y) u.is fits) (ap (rights_at (objects_of p.families) call.accesses) e)))
+      (λ f. kernel_good p.families (Forks p (Whole call)) (k - DEFINITIONS) call.ints call.accesses t f fits.given)
     where
       chosen : (b : Bool) (x y : Option Target) → (if b then x else y) ≡ Some t
           → (x ≡ Some t → Good (Allowed p.families call.accesses None) (Forks p (Whole call)) Nothing (task_or_loop lost p call (task_at p.tasks k) (index_in (task_at p.tasks k))))
-          → (y ≡ Some t → Good (Allowed p.families call.accesses None) (Forks p (Whole call)) Nothing (kernel_body p.families (k - 1024) call.ints call.accesses))
-          → Good (Allowed p.families call.accesses None) (Forks p (Whole call)) Nothing (if b then task_or_loop lost p call (task_at p.tasks k) (index_in (task_at p.tasks k)) else kernel_body p.families (k - 1024) call.ints call.accesses)
+          → (y ≡ Some t → Good (Allowed p.families call.accesses None) (Forks p (Whole call)) Nothing (kernel_body p.families (k - DEFINITIONS) call.ints call.accesses))
+          → Good (Allowed p.families call.accesses None) (Forks p (Whole call)) Nothing (if b then task_or_loop lost p call (task_at p.tasks k) (index_in (task_at p.tasks k)) else kernel_body p.families (k - DEFINITIONS) call.ints call.accesses)
       chosen true x y h f g = f h
       chosen false x y h f g = g h
 
   -- after the zeroing
   after_good : (call : CallTree) (n : ℕ) → call.task ≡ n → Fits p call → Good (Directly p (Whole call)) (Forks p (Whole call)) Nothing (call_body lost p call n)
-  after_good call zero e (is_main task deep long none) =
+  after_good call zero e (is_main main) =
+      let deep : call.depth ≡ 0 = ap (λ (c : CallTree). c.depth) main in
       let same : rights_of p call ≡ rights_at (objects_of p.families) [] 0 = ap (rights_at (objects_of p.families) call.accesses) e in
       subst (λ (rights : List Access). Good (Allowed p.families rights None) (Forks p (Whole call)) Nothing (main_body lost p p.mains)) (sym same)
       (main_good p.mains (Forks p (Whole call)) ok.main ok.mains (λ child h. subst (λ (rights : List Access). HandsOn p rights call.depth child) (sym same) (subst (λ (d : ℕ). HandsOn p (rights_at (objects_of p.families) [] 0) d child) (sym deep) h)))
@@ -207,14 +207,14 @@ module _ (lost : Script → Script) (p : Program) (ok : Parts p) where
     where
       no_target : target_at p.tasks 0 ≡ Some t → ⊥
       no_target h = cc
-  after_good call (suc k) e (is_main task deep long none) = absurd (omega (arith, e, task))
+  after_good call (suc k) e (is_main main) = let task : call.task ≡ 0 = ap (λ (c : CallTree). c.task) main in absurd (omega (arith, e, task))
   after_good call (suc k) e (is_call t is fits) =
       subst (λ (rights : List Access). Good (Allowed p.families rights None) (Forks p (Whole call)) Nothing (call_body lost p call (suc k))) (sym (ap (rights_at (objects_of p.families) call.accesses) e))
       (numbered_good call k t e (subst (λ (n : ℕ). target_at p.tasks n ≡ Some t) e is) fits)
 
   -- the accesses of a call are among its rights
   among : (call : CallTree) (n : ℕ) → call.task ≡ n → Fits p call → (P : Access → Type 0) → SomeOf P call.accesses → SomeOf P (rights_of p call)
-  among call zero e (is_main task deep long none) P s = absurd (subst (λ (xs : List Access). SomeOf P xs) none s)
+  among call zero e (is_main main) P s = absurd (subst (λ (c : CallTree). SomeOf P c.accesses) main s)
   among call zero e (is_call t is fits) P s = absurd (no_target (subst (λ (n : ℕ). target_at p.tasks n ≡ Some t) e is))
     where
       no_target : target_at p.tasks 0 ≡ Some t → ⊥
@@ -229,11 +229,11 @@ module _ (lost : Script → Script) (p : Program) (ok : Parts p) where
   kernel_no_loop (suc (suc (suc (suc k)))) t h = cc
 
   indexed_good : (call : CallTree) (i k : ℕ) (t : Target) → target_at p.tasks (suc k) ≡ Some t → FitsTarget (objects_of p.families) call t → i < call.length → Good (Allowed p.families call.accesses (Some i)) (Forks p (Index call i)) Nothing (index_body lost p call i (task_at p.tasks k))
-  indexed_good call i k t is fits lt = chosen (nat_lt k 1024) (task_target p.tasks 1 k) (kernel_at (k - 1024)) is
+  indexed_good call i k t is fits lt = chosen (nat_lt k DEFINITIONS) (task_target p.tasks 1 k) (kernel_at (k - DEFINITIONS)) is
       (λ f. let u = task_of p.tasks 1 k t f in
-          subst (λ (y : Option Task). Good (Allowed p.families call.accesses (Some i)) (Forks p (Index call i)) Nothing (index_body lost p call i y)) (sym u.at)
-          (index_good call u.task (1 + k) i (Forks p (Index call i)) (rules_at p.tasks k u.task ok.tasks u.at) (subst (λ (y : Target). FitsTarget (objects_of p.families) call y) u.is fits) lt))
-      (λ f. let none : call.length ≡ 0 = fits.formed (kernel_no_loop (k - 1024) t f) in absurd (omega arith))
+      subst (λ (y : Option Task). Good (Allowed p.families call.accesses (Some i)) (Forks p (Index call i)) Nothing (index_body lost p call i y)) (sym u.at)
+      (index_good call u.task (1 + k) i (Forks p (Index call i)) (rules_at p.tasks k u.task ok.tasks u.at) (subst (λ (y : Target). FitsTarget (objects_of p.families) call y) u.is fits) lt))
+      (λ f. let none : call.length ≡ 0 = fits.formed (kernel_no_loop (k - DEFINITIONS) t f) in absurd (omega arith))
     where
       chosen : (b : Bool) (x y : Option Target) → (if b then x else y) ≡ Some t
           → (x ≡ Some t → Good (Allowed p.families call.accesses (Some i)) (Forks p (Index call i)) Nothing (index_body lost p call i (task_at p.tasks k)))
@@ -243,7 +243,7 @@ module _ (lost : Script → Script) (p : Program) (ok : Parts p) where
       chosen false x y h f g = g h
 
   of_index_good : (call : CallTree) (i n : ℕ) → call.task ≡ n → Fits p call → i < call.length → Good (Directly p (Index call i)) (Forks p (Index call i)) Nothing (index_body lost p call i (task_at p.tasks (call.task - 1)))
-  of_index_good call i n e (is_main task deep long none) lt = absurd (omega (arith, long, lt))
+  of_index_good call i n e (is_main main) lt = let long : call.length ≡ 0 = ap (λ (c : CallTree). c.length) main in absurd (omega (arith, long, lt))
   of_index_good call i zero e (is_call t is f) lt = absurd (no_target (subst (λ (n : ℕ). target_at p.tasks n ≡ Some t) e is))
     where
       no_target : target_at p.tasks 0 ≡ Some t → ⊥
@@ -270,3 +270,6 @@ module _ (lost : Script → Script) (p : Program) (ok : Parts p) where
 -- So at no place a rule was broken, since what is done there might be an act that no right lets a body do.
 pub plain : (lost : Script → Script) (p : Program) → IsAccepted p → (job : Job) → FitsJob p job → Keeps (Directly p job) (Forks p job) (script_with lost p job)
 plain lost p h = keeps lost p (parts p h)
+
+pub few_objects : (p : Program) → IsAccepted p → (objects_of p.families ≤ OBJECTS) × (elements_of p.families ≤ ELEMENTS)
+few_objects p h = (parts p h).small

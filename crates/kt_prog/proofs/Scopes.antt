@@ -1,9 +1,9 @@
 -- How names in sight come and go.
-use Rattle.std.proofs.Common.{◌≡◌, ◌≤◌, ◌<◌, ℕ, zero, suc, ◌+◌, Bool, true, false, not, List, [], ◌∷◌, ◌++◌, length, take, Option, Some, None, refl, sym, ap, subst, arith, nat_lt, nat_le, is_some, if◌then◌else◌}
+use Rattle.std.proofs.Common.{◌≡◌, ◌≤◌, ◌<◌, ℕ, suc, ◌+◌, Bool, true, false, List, [], ◌∷◌, ◌++◌, length, take, Option, Some, None, refl, ap, subst, arith, nat_lt, is_some, if◌then◌else◌}
 use Rattle.std.proofs.lemmas.Bool.Decides.{nat_tests}
 use Rattle.std.specs.Str.{bytes_eq}
+use Rattle.kt_law.specs.declared.limits.TheConstants.{ACCESSES, INTS, LOCALS}
 use Rattle.kt_law.specs.declared.places.P.TheVariants.{P5, P12}
-use Rattle.kt_law.specs.declared.modes.Mode.{Mode}
 use Rattle.kt_law.specs.declared.places.Place.{Place}
 use Rattle.kt_law.specs.declared.accesses.Access.{Access}
 use Rattle.kt_prog.specs.Locals.{Site, or_else, local_of}
@@ -12,12 +12,13 @@ use Rattle.kt_prog.specs.Scope.{Scope, known_of, kind_family, family_known, kind
 use Rattle.kt_prog.specs.declared.sight.Known.{Known}
 use Rattle.kt_prog.specs.declared.sight.Kind.TheVariants.{Number, Variable, Index, One, Many}
 use Rattle.kt_prog.specs.declared.sight.Kind.{Kind}
-use Rattle.kt_prog.specs.Rules.{Breaches, denied, new_name, set_rule}
+use Rattle.kt_prog.specs.Rules.{denied, new_name, set_rule}
 use Rattle.kt_prog.specs.declared.programs.Family.{Family}
+use Rattle.kt_prog.specs.declared.scope.TheConstants.{NAMES}
 use Rattle.kt_prog.specs.declared.scope.Local.{Local}
 use Rattle.kt_prog.specs.declared.scope.Bound.{Bound}
 use Rattle.kt_prog.specs.declared.scope.Bound.TheVariants as B
-use Rattle.kt_prog.proofs.Lists.{left_none, right_none, not_denied}
+use Rattle.kt_prog.proofs.Lists.{right_none, not_denied}
 use Rattle.kt_prog.proofs.Matches.{Suits, Found, local_found, Matches, Agrees, matches_snoc, same_length}
 
 length-snoc : {A : Type 0} (xs : List A) (x : A) → length (xs ++ x ∷ []) ≡ suc (length xs)
@@ -56,19 +57,19 @@ module _ (site : Site) (rights : List Access) (own : Option ℕ) where
       (subst (λ n. Match s.names (take n after)) (same_length site rights own s.names locals a.names) b)
 
   -- the table has room
-  pub room_left : (s : Scope) (locals : List Local) (name : List ℕ) (place : Place) → Agree s locals → new_name s name place ≡ [] → nat_lt (length locals) 96 ≡ true
+  pub room_left : (s : Scope) (locals : List Local) (name : List ℕ) (place : Place) → Agree s locals → new_name s name place ≡ [] → nat_lt (length locals) NAMES ≡ true
   room_left s locals name place a h =
-      let few : nat_le 64 s.lets ≡ false = not_denied place P12 (nat_le 64 s.lets) (right_none (denied place P5 (is_some (kind_of s name))) (denied place P12 (nat_le 64 s.lets)) h) in
-      let less : s.lets < 64 = grind (arith, nat_tests) in
-      let room : length s.names ≤ 17 + s.lets = a.room in
+      let few : nat_lt LOCALS (s.lets + 1) ≡ false = not_denied place P12 (nat_lt LOCALS (s.lets + 1)) (right_none (denied place P5 (is_some (kind_of s name))) (denied place P12 (nat_lt LOCALS (s.lets + 1))) h) in
+      let less : s.lets < LOCALS = grind (arith, nat_tests) in
+      let room : length s.names ≤ 1 + INTS + ACCESSES + s.lets = a.room in
       let same = same_length site rights own s.names locals a.names in
-      let small : length locals < 96 = omega (arith, same, room, less) in
+      let small : length locals < NAMES = omega (arith, same, room, less) in
       grind (arith, nat_tests)
 
   -- one `let` or `for` name more
   pub agrees_new : (s : Scope) (locals : List Local) (name : List ℕ) (kind : Kind) (n : ℕ) → Agree s locals → Suits site rights own kind (B.Number n) → Agree (with_name s name kind) (locals ++ record { name = name; bound = B.Number n } ∷ [])
   agrees_new s locals name kind n a suits =
-      let room : length s.names ≤ 17 + s.lets = a.room in
+      let room : length s.names ≤ 1 + INTS + ACCESSES + s.lets = a.room in
       let longer = length-snoc s.names (record { name = name; kind = kind }) in
       record {
         families = a.families;

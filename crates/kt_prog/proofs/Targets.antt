@@ -1,11 +1,12 @@
 -- A forked name stands for what the number in the call stands for.
-use Rattle.std.proofs.Common.{◌≡◌, ◌≤◌, ◌<◌, ℕ, zero, suc, ◌+◌, ◌-◌, Bool, true, false, List, [], ◌∷◌, ◌++◌, length, map, Option, Some, None, refl, sym, ap, subst, arith, nat_lt, nat_le, if◌then◌else◌, codes}
+use Rattle.std.proofs.Common.{◌≡◌, ◌≤◌, ◌<◌, ℕ, zero, suc, ◌+◌, Bool, true, false, List, [], ◌∷◌, length, Option, Some, None, refl, sym, ap, subst, arith, nat_lt, nat_eq, if◌then◌else◌, codes}
 use Rattle.std.proofs.lemmas.Bool.Decides.{nat_tests}
 use Rattle.std.specs.Str.{bytes_eq}
+use Rattle.kt_law.specs.declared.limits.TheConstants.{DEFINITIONS}
 use Rattle.kt_law.specs.declared.places.P.TheVariants.{P12}
 use Rattle.kt_prog.specs.Locals.{or_else}
 use Rattle.kt_prog.specs.Targets.{Target, target, mul, minplus, stencil, scan, kernel_named, task_named, target_of}
-use Rattle.kt_prog.specs.Rules.{Breaches, denied}
+use Rattle.kt_prog.specs.Rules.{denied}
 use Rattle.kt_prog.specs.Declarations.{count_rules}
 use Rattle.kt_prog.specs.Fits.{task_target, target_at}
 use Rattle.kt_prog.specs.Bodies.{task_at}
@@ -43,21 +44,21 @@ task_is (u ∷ tasks) first name t h = named (bytes_eq u.name name) u tasks firs
         let num : t.number ≡ suc first + n.k = n.number in
         record { k = suc n.k; below = omega (arith, n.below); number = omega (arith, num); is = n.is }
 
-pub few_tasks : (tasks : List Task) (before : ℕ) → count_rules before tasks ≡ [] → before ≤ 1024 → before + length tasks ≤ 1024
+pub few_tasks : (tasks : List Task) (before : ℕ) → count_rules before tasks ≡ [] → before ≤ DEFINITIONS → before + length tasks ≤ DEFINITIONS
 few_tasks [] before h le = omega arith
 few_tasks (t ∷ tasks) before h le =
-    let few : nat_le 1024 before ≡ false = not_denied t.place P12 (nat_le 1024 before) (left_none (denied t.place P12 (nat_le 1024 before)) (count_rules (suc before) tasks) h) in
-    let less : suc before ≤ 1024 = grind (arith, nat_tests) in
-    omega (arith, few_tasks tasks (suc before) (right_none (denied t.place P12 (nat_le 1024 before)) (count_rules (suc before) tasks) h) less)
+    let few : nat_eq before DEFINITIONS ≡ false = not_denied t.place P12 (nat_eq before DEFINITIONS) (left_none (denied t.place P12 (nat_eq before DEFINITIONS)) (count_rules (suc before) tasks) h) in
+    let less : suc before ≤ DEFINITIONS = grind (arith, nat_tests) in
+    omega (arith, few_tasks tasks (suc before) (right_none (denied t.place P12 (nat_eq before DEFINITIONS)) (count_rules (suc before) tasks) h) less)
 
-named_at : (tasks : List Task) (t : Target) → length tasks ≤ 1024 → Numbered tasks 1 t → target_at tasks t.number ≡ Some t
+named_at : (tasks : List Task) (t : Target) → length tasks ≤ DEFINITIONS → Numbered tasks 1 t → target_at tasks t.number ≡ Some t
 named_at tasks t few n =
     let below : n.k < length tasks = n.below in
-    let first : nat_lt n.k 1024 ≡ true = grind (arith, nat_tests) in
+    let first : nat_lt n.k DEFINITIONS ≡ true = grind (arith, nat_tests) in
     let num : t.number ≡ suc n.k = omega (arith, n.number) in
     subst (λ (m : ℕ). target_at tasks m ≡ Some t) (sym num) (rw first n.is)
 
-pub target_is : (tasks : List Task) (name : List ℕ) (t : Target) → length tasks ≤ 1024 → target_of tasks name ≡ Some t → target_at tasks t.number ≡ Some t
+pub target_is : (tasks : List Task) (name : List ℕ) (t : Target) → length tasks ≤ DEFINITIONS → target_of tasks name ≡ Some t → target_at tasks t.number ≡ Some t
 target_is tasks name t few h =
     either (kernel_named name) (task_named 1 tasks name) (λ e. kernel_is tasks (bytes_eq (codes "k_mul") name) (bytes_eq (codes "k_minplus") name) (bytes_eq (codes "k_stencil") name) (bytes_eq (codes "k_scan") name) t e)
     (λ e. named_at tasks t few (task_is tasks 1 name t e)) h

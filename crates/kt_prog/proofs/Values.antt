@@ -1,27 +1,25 @@
 -- Expressions keep to the rights.
-use Rattle.std.proofs.Common.{◌≡◌, ◌≤◌, ◌<◌, ℕ, zero, suc, ◌+◌, Bool, true, false, not, ◌&&◌, List, [], ◌∷◌, ◌++◌, length, Option, Some, None, ◌⊎◌, inl, inr, refl, sym, ap, subst, arith, nat_lt}
+use Rattle.std.proofs.Common.{◌≡◌, ◌≤◌, ℕ, suc, Bool, true, false, not, ◌&&◌, List, [], Option, Some, None, sym, subst, arith, nat_lt}
 use Rattle.std.proofs.lemmas.Bool.Decides.{nat_tests}
 use Rattle.kt_law.specs.Operators.{apply_of}
-use Rattle.kt_law.specs.Modes.{may_load, may_store, may_fold, is_owned}
-use Rattle.kt_law.specs.Acts.{Act, Deed, Load, Store, Fold}
+use Rattle.kt_law.specs.Modes.{is_owned}
+use Rattle.kt_law.specs.Acts.{Act, Deed, Load}
 use Rattle.kt_law.specs.declared.faults.F.TheVariants.{F1, F2}
 use Rattle.kt_law.specs.declared.places.P.TheVariants.{P10, P11}
-use Rattle.kt_law.specs.declared.operators.BinOp.{BinOp}
 use Rattle.kt_law.specs.declared.modes.Mode.{Mode}
 use Rattle.kt_law.specs.declared.places.Place.{Place}
 use Rattle.kt_law.specs.declared.accesses.Access.{Access}
-use Rattle.kt_prog.specs.Calls.{CallTree, Job}
-use Rattle.kt_prog.specs.Script.{Script, Step, ◌>>=◌, ◌>>◌, give, stop, load, tested}
+use Rattle.kt_prog.specs.Calls.{Job}
+use Rattle.kt_prog.specs.Script.{Script, Step}
 use Rattle.kt_prog.specs.Locals.{Site, bound_of}
 use Rattle.kt_prog.specs.Objects.{width_of}
 use Rattle.kt_prog.specs.Lookups.{number_in, object_in}
-use Rattle.kt_prog.specs.Values.{View, ExprMeaning, value_of, expr_step, number_at, object_at, element_within, applied}
+use Rattle.kt_prog.specs.Values.{View, ExprMeaning, value_of, expr_step, applied}
 use Rattle.kt_prog.specs.Scope.{Scope, kind_of}
 use Rattle.kt_prog.specs.declared.sight.Kind.TheVariants.{Number, Variable, Index, One, Many}
 use Rattle.kt_prog.specs.declared.sight.Kind.{Kind}
-use Rattle.kt_prog.specs.Rules.{Breaches, ExprRules, expr_rules, rules_of, denied, number_rule, element_rule, is_index, at_index, own_rule, load_rule}
-use Rattle.kt_prog.specs.Rights.{SomeOf, lets, Owns, Permits, Allowed}
-use Rattle.kt_prog.specs.Fits.{EachOf}
+use Rattle.kt_prog.specs.Rules.{Breaches, ExprRules, expr_rules, rules_of, number_rule, element_rule, is_index, at_index, own_rule, load_rule}
+use Rattle.kt_prog.specs.Rights.{lets, Owns, Permits, Allowed}
 use Rattle.kt_prog.specs.declared.scope.Local.{Local}
 use Rattle.kt_prog.specs.declared.scope.Bound.{Bound}
 use Rattle.kt_prog.specs.declared.scope.Bound.TheVariants as B
@@ -29,7 +27,7 @@ use Rattle.kt_prog.specs.declared.programs.Expr.{Expr, Expr-F, roll-Expr, map-Ex
 use Rattle.kt_prog.specs.declared.programs.Expr.TheOpen as E
 use Rattle.kt_prog.proofs.Good.{Good, good_give, good_then, good_stop, good_test, good_load}
 use Rattle.kt_prog.proofs.Lists.{left_none, right_none, not_denied, not_false, some_more}
-use Rattle.kt_prog.proofs.Matches.{HasRight, Suits, Found, LoopOk, FamiliesMatch, Agrees, looked}
+use Rattle.kt_prog.proofs.Matches.{HasRight, Found, LoopOk, FamiliesMatch, Agrees, looked}
 
 own_lemma : (o : Option ℕ) (b t : Bool) (mode : Mode) (i : ℕ) → (b && is_owned mode && not t) ≡ false → (site : Site) (rights : List Access) → LoopOk site rights o o b → (t ≡ true → o ≡ Some i) → Owns o mode i
 own_lemma None b t mode i h site rights l k = tt
@@ -87,9 +85,11 @@ module _ (lost : Script → Script) (site : Site) (rights : List Access) (own : 
 
   -- an act on such an object is allowed
   pub allowed : (mode : Mode) (object i : ℕ) (deed : Deed) → nat_lt i (width_of site.families object) ≡ true → lets mode deed ≡ true → Owns own mode i → HasRight site rights own mode object (suc object) → D (record { object = object; element = i; deed = deed })
-  allowed mode object i deed lt l o r =
-      (grind (arith, nat_tests), some_more (λ (a : Access). (a.lo ≤ object) × (suc object ≤ a.hi) × (a.mode ≡ mode)) (Permits own (record { object = object; element = i; deed = deed }))
-      (λ a h. (h.0, omega arith, subst (λ (m : Mode). lets m deed ≡ true) (sym h.2) l, subst (λ (m : Mode). Owns own m i) (sym h.2) o)) rights r)
+  allowed mode object i deed lt l o r = (
+    grind (arith, nat_tests),
+    some_more (λ (a : Access). (a.lo ≤ object) × (suc object ≤ a.hi) × (a.mode ≡ mode)) (Permits own (record { object = object; element = i; deed = deed }))
+        (λ a h. (h.0, omega arith, subst (λ (m : Mode). lets m deed ≡ true) (sym h.2) l, subst (λ (m : Mode). Owns own m i) (sym h.2) o)) rights r,
+  )
 
   pub owned : (s : Scope) (locals : List Local) (bare : Option (List ℕ)) (place : Place) (mode : Mode) (i : ℕ) → Agrees site rights own s locals → own_rule s bare place mode ≡ [] → OwnAt s bare i → Owns own mode i
   owned s locals bare place mode i a h o = own_lemma own s.in_loop (at_index s bare) mode i (not_denied place P11 _ h) site rights a.loop o
@@ -103,21 +103,27 @@ module _ (lost : Script → Script) (site : Site) (rights : List Access) (own : 
 
   expr_layer : (y : Expr-F ((e : Expr) × KeepsExpr (rules_of e) (value_of lost e))) → KeepsExpr (expr_rules (map-Expr _ _ rules_of (map-Expr _ _ (λ e. e.0) y))) (expr_step lost (map-Expr _ _ (value_of lost) (map-Expr _ _ (λ e. e.0) y)))
   expr_layer (E.Num n) = record { good = λ s locals line a h. good_give D H (OwnAt s None) n (λ e. cc) }
-  expr_layer (E.Var name place) = record { good = λ s locals line a h.
-      number_found (kind_of s name) (bound_of site locals name) place h (looked site rights own fam s locals name a) }
-  expr_layer (E.Elem name place at) = record { good = λ s locals line a h.
-      let r = rules_of at.0 in
-      let rule = load_rule s r.bare place in
-      good_then D H (IsObject rule) (OwnAt s None) _ _ (element_found rule (kind_of s name) (bound_of site locals name) place (left_none _ _ h) (looked site rights own fam s locals name a)) (λ o f.
-      good_then D H (OwnAt s r.bare) (OwnAt s None) _ _ (at.1.good s locals line a (right_none _ _ h)) (λ i w.
-      good_then D H (λ _. nat_lt i (width_of site.families o) ≡ true) (OwnAt s None) _ _ (good_test D H _ F2 line) (λ _ lt.
-      forget (OwnAt s None) _ (good_load D H o i
-      (allowed f.0 o i Load lt (not_false _ (not_denied place P10 _ (left_none _ _ f.1))) (owned s locals r.bare place f.0 i a (right_none _ _ f.1) w) f.2))
-      (λ x e. cc)))) }
-  expr_layer (E.Bin op x y) = record { good = λ s locals line a h.
-      good_then D H (OwnAt s (rules_of x.0).bare) (OwnAt s None) _ _ (x.1.good s locals line a (left_none _ _ h)) (λ m _.
-      good_then D H (OwnAt s (rules_of y.0).bare) (OwnAt s None) _ _ (y.1.good s locals line a (right_none _ _ h)) (λ n _.
-      forget (OwnAt s None) _ (applied_good (apply_of op m n) line) (λ z e. cc))) }
+  expr_layer (E.Var name place) = record {
+    good = λ s locals line a h.
+        number_found (kind_of s name) (bound_of site locals name) place h (looked site rights own fam s locals name a);
+  }
+  expr_layer (E.Elem name place at) = record {
+    good = λ s locals line a h.
+        let r = rules_of at.0 in
+        let rule = load_rule s r.bare place in
+        good_then D H (IsObject rule) (OwnAt s None) _ _ (element_found rule (kind_of s name) (bound_of site locals name) place (left_none _ _ h) (looked site rights own fam s locals name a)) (λ o f.
+        good_then D H (OwnAt s r.bare) (OwnAt s None) _ _ (at.1.good s locals line a (right_none _ _ h)) (λ i w.
+        good_then D H (λ _. nat_lt i (width_of site.families o) ≡ true) (OwnAt s None) _ _ (good_test D H _ F2 line) (λ _ lt.
+        forget (OwnAt s None) _ (good_load D H o i
+        (allowed f.0 o i Load lt (not_false _ (not_denied place P10 _ (left_none _ _ f.1))) (owned s locals r.bare place f.0 i a (right_none _ _ f.1) w) f.2))
+        (λ x e. cc))));
+  }
+  expr_layer (E.Bin op x y) = record {
+    good = λ s locals line a h.
+        good_then D H (OwnAt s (rules_of x.0).bare) (OwnAt s None) _ _ (x.1.good s locals line a (left_none _ _ h)) (λ m _.
+        good_then D H (OwnAt s (rules_of y.0).bare) (OwnAt s None) _ _ (y.1.good s locals line a (right_none _ _ h)) (λ n _.
+        forget (OwnAt s None) _ (applied_good (apply_of op m n) line) (λ z e. cc)));
+  }
 
   pub expr_keeps : (e : Expr) → KeepsExpr (rules_of e) (value_of lost e)
   expr_keeps = ind-Expr (λ e. KeepsExpr (rules_of e) (value_of lost e)) (λ x y is.

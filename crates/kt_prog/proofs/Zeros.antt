@@ -1,11 +1,11 @@
 -- The zeroing keeps to the rights.
-use Rattle.std.proofs.Common.{◌≡◌, ◌≤◌, ◌<◌, ℕ, zero, suc, ◌+◌, ◌-◌, Bool, true, false, List, [], ◌∷◌, ◌++◌, Option, Some, None, ◌⊎◌, inl, inr, refl, sym, ap, subst, arith}
-use Rattle.kt_law.specs.Acts.{Act, Store}
+use Rattle.std.proofs.Common.{◌≡◌, ◌≤◌, ◌<◌, ℕ, zero, suc, ◌+◌, ◌-◌, List, [], ◌∷◌, None, inl, inr, refl, arith}
+use Rattle.kt_law.specs.Acts.{Store}
 use Rattle.kt_law.specs.declared.modes.Mode.{Mode}
 use Rattle.kt_law.specs.declared.modes.Mode.TheVariants as M
 use Rattle.kt_law.specs.declared.accesses.Access.{Access}
 use Rattle.kt_prog.specs.Calls.{Job}
-use Rattle.kt_prog.specs.Script.{Step, ◌>>=◌, give, perform}
+use Rattle.kt_prog.specs.Script.{Step}
 use Rattle.kt_prog.specs.Objects.{width_of}
 use Rattle.kt_prog.specs.Zeroing.{zero_elements, zero_objects, zero_access, zero_all}
 use Rattle.kt_prog.specs.Rights.{SomeOf, Permits, Allowed}

@@ -41,7 +41,7 @@ mains_rules p (m ∷ mains) = body_rules (main_scope p) m.body ++ mains_rules p 
 unfoldable pub broken : Program → Breaches
 broken p =
     names_twice (declared_in p) (declared_in p) ++ main_rules p.end p.mains ++ family_rules 0 0 p.families ++ count_rules 0 p.tasks
-        ++ task_rules p p.tasks ++ mains_rules p p.mains
+    ++ task_rules p p.tasks ++ mains_rules p p.mains
 
 abbrev pub IsAccepted : Program → Type 0
 IsAccepted p = broken p ≡ []

@@ -5,7 +5,7 @@ use Rattle.kt_order.specs.Body.{Stop}
 use Rattle.kt_prog.specs.Calls.{CallTree, Job, Whole, Index}
 use Rattle.kt_prog.specs.Script.{Script, astray, Step, ◌>>=◌, ◌>>◌, give, fork}
 use Rattle.kt_prog.specs.Locals.{Site, given}
-use Rattle.kt_prog.specs.Statements.{State, block, stmt_of}
+use Rattle.kt_prog.specs.Statements.{block, stmt_of}
 use Rattle.kt_prog.specs.Zeroing.{zero_all}
 use Rattle.kt_prog.specs.Kernels.{kernel_body}
 use Rattle.kt_prog.specs.declared.scope.Local.{Local}

@@ -29,7 +29,7 @@ pub record Declared : Type 0 where
 abbrev pub declared_in : Program → List Declared
 declared_in p =
     map (λ (f : Family). record { name = f.name; place = f.place }) p.families
-        ++ map (λ (t : Task). record { name = t.name; place = t.place }) p.tasks
+    ++ map (λ (t : Task). record { name = t.name; place = t.place }) p.tasks
 
 abbrev pub is_earlier : List Declared → Declared → Bool
 is_earlier [] d = false
@@ -54,7 +54,7 @@ main_rules end (m ∷ mains) = other_mains mains
 abbrev pub too_large : ℕ → ℕ → Family → Bool
 too_large objects elements f =
     nat_eq f.members 0 || nat_eq f.elements 0 || nat_lt WIDTH f.elements || nat_lt OBJECTS (objects + f.members)
-        || nat_lt ELEMENTS (elements + f.members * f.elements)
+    || nat_lt ELEMENTS (elements + f.members * f.elements)
 
 -- a family that breaks this isn't counted for later families
 abbrev pub family_rules : ℕ → ℕ → List Family → Breaches
@@ -91,4 +91,4 @@ abbrev pub param_rules : Bool → List Known → Counts → List Param → Breac
 param_rules in_loop before c [] = []
 param_rules in_loop before c (p ∷ params) =
     sort_rule in_loop c p p.sort ++ denied p.name_place P5 (is_some (known_of before p.name))
-        ++ param_rules in_loop (before ++ known_param p ∷ []) (counted c p.sort) params
+    ++ param_rules in_loop (before ++ known_param p ∷ []) (counted c p.sort) params

@@ -99,4 +99,4 @@ fork_rule (Some t) place s len args =
     let counted = nat_eq (length args) (length t.sorts) in
     let formed = is_formed t.is_loop len in
     denied place P7 (not counted) ++ denied place P8 (not formed) ++ length_rule s len
-        ++ (if counted && formed then argument_rules t.sorts s args else unknown_in_all s args)
+    ++ (if counted && formed then argument_rules t.sorts s args else unknown_in_all s args)

@@ -1,5 +1,5 @@
 -- What the four kernels do. A kernel's fault has line 0.
-use Rattle.std.specs.Prelude.{ℕ, zero, suc, ◌+◌, ◌*◌, List, [], ◌∷◌, Bool, ◌&&◌, nat_lt, nat_le, slice_index}
+use Rattle.std.specs.Prelude.{ℕ, zero, suc, ◌*◌, List, [], ◌∷◌, Bool, ◌&&◌, nat_lt, nat_le, slice_index}
 use Rattle.kt_law.specs.Acts.{Deed, Store, Fold}
 use Rattle.kt_law.specs.PlainKernels.{mul_of, minplus_of, stencil_of, scan_of}
 use Rattle.kt_law.specs.declared.limits.TheConstants.{LENGTH}

@@ -1,7 +1,6 @@
 -- Which breach is answered: the one with the least place, and of two at one place the one with the smaller number.
 use Rattle.std.specs.Prelude.{ℕ, [], ◌∷◌, Bool, ◌&&◌, ◌||◌, Option, Some, None, nat_eq, nat_lt, if◌then◌else◌}
 use Rattle.kt_law.specs.declared.places.P.{P}
-use Rattle.kt_law.specs.declared.places.P.TheVariants as P
 use Rattle.kt_law.specs.declared.places.Place.{Place}
 use Rattle.kt_law.specs.declared.places.Refusal.{Refusal}
 use Rattle.kt_prog.specs.Rules.{Breaches}

@@ -1,5 +1,5 @@
 -- The rules of statements.
-use Rattle.std.specs.Prelude.{ℕ, List, [], ◌∷◌, ◌++◌}
+use Rattle.std.specs.Prelude.{List, [], ◌∷◌, ◌++◌}
 use Rattle.kt_law.specs.declared.places.P.TheVariants.{P11}
 use Rattle.kt_law.specs.declared.places.Place.{Place}
 use Rattle.kt_prog.specs.Scope.{Scope, kind_of, with_name}

@@ -9,7 +9,7 @@ use Rattle.kt_prog.specs.declared.programs.Task.{Task}
 use Rattle.kt_prog.specs.declared.programs.Index.{Index}
 use Rattle.kt_prog.specs.declared.programs.Param.{Param}
 use Rattle.kt_prog.specs.declared.programs.Sort.{Sort}
-use Rattle.kt_prog.specs.declared.programs.Sort.TheVariants.{Int, One, Many}
+use Rattle.kt_prog.specs.declared.programs.Sort.TheVariants.{Int, One}
 
 -- what can be forked: its number in a call, whether it is a loop, and its parameters
 pub record Target : Type 0 where

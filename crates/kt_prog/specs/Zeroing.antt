@@ -4,7 +4,7 @@ use Rattle.kt_law.specs.Acts.{Store}
 use Rattle.kt_law.specs.declared.accesses.Access.{Access}
 use Rattle.kt_law.specs.declared.modes.Mode.{Mode}
 use Rattle.kt_law.specs.declared.modes.Mode.TheVariants as M
-use Rattle.kt_prog.specs.Script.{Step, ◌>>=◌, ◌>>◌, give, perform}
+use Rattle.kt_prog.specs.Script.{Step, ◌>>◌, give, perform}
 use Rattle.kt_prog.specs.Objects.{width_of}
 use Rattle.kt_prog.specs.declared.programs.Family.{Family}
 

@@ -24,10 +24,10 @@ impl Model for Call {
     ghost Value = { CallTree };
 
     ghost view = { λ c. record {
-        task = c.task;
-        depth = c.depth;
-        length = c.length;
-        ints = c.ints.items;
-        accesses = c.accesses.items;
+      task = c.task;
+      depth = c.depth;
+      length = c.length;
+      ints = c.ints.items;
+      accesses = c.accesses.items;
     } };
 }

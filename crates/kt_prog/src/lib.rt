@@ -3,6 +3,7 @@
 
 mod calls;
 mod counts;
+pub mod laws;
 mod names;
 mod programs;
 mod runs;
