@@ -1,0 +1,5 @@
+pub mod Deeds
+pub mod Lists
+pub mod Stores
+pub mod Tables
+pub mod Agree

@@ -1,0 +1,8 @@
+//! The laws of the theory of reordering from the tables of modes: a program whose bodies keep to their accesses
+//! gives the sequential answer in every order. Nothing here runs.
+#![tactic(auto)]
+
+pub mod laws;
+mod source;
+
+pub use source::Source;
