@@ -14,3 +14,5 @@ pub mod Progress
 pub mod Measure
 pub mod Shown
 pub mod Agree
+pub mod Phases
+pub mod Books

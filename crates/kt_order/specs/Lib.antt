@@ -10,4 +10,5 @@ pub mod Events
 pub mod Lawful
 pub mod Shown
 pub mod Places
+pub mod Books
 pub mod Theorems
