@@ -5,7 +5,7 @@ use Rattle.kt_order.specs.Machine.{Machine, Code}
 use Rattle.kt_order.specs.Trace.{hearing}
 use Rattle.kt_order.specs.Stand.{Standing, stand}
 use Rattle.kt_order.specs.Laws.{Acts, Within}
-use Rattle.kt_order.proofs.Lists.{AllOf}
+use Rattle.kt_order.specs.Lists.{AllOf}
 use Rattle.kt_order.proofs.Stands.{stand_none, some_is, fork_some}
 
 module _ (m : Machine) where

@@ -7,7 +7,7 @@ use Rattle.kt_order.specs.Forest.{Unclaimed, Finished, Task, Forest, Nil, Node, 
 use Rattle.kt_order.specs.Rest.{left_of, left}
 use Rattle.kt_order.specs.Events.{AllFinished}
 use Rattle.kt_order.specs.Lawful.{PhaseOk, TaskOk}
-use Rattle.kt_order.proofs.Lists.{AllOf}
+use Rattle.kt_order.specs.Lists.{AllOf}
 use Rattle.kt_order.proofs.Stands.{stand_none}
 use Rattle.kt_order.proofs.Bounds.{IsStop, Bounded, bounded}
 

@@ -1,9 +1,9 @@
 -- The phases of the indexes of a loop.
 use Rattle.std.proofs.Common.{◌≡◌, ◌≢◌, ℕ, zero, suc, ◌+◌, ◌-◌, ◌≤◌, ◌<◌, min, Bool, true, false, cond, nat_eq, nat_lt, ◌&&◌, List, [], ◌∷◌, length, Some, ◌⊎◌, inl, inr, replicate, refl, sym, ap, subst, ◌∙◌, arith}
 use Rattle.kt_order.specs.Forest.{Phase, Unclaimed, Running, Ended, Finished}
-use Rattle.kt_order.specs.Trace.{nth}
+use Rattle.kt_order.specs.Lists.{nth}
 use Rattle.kt_order.specs.Books.{below, is_untaken, untaken, is_done, done_in, NoneEnded, set_phase, set_running}
-use Rattle.kt_order.proofs.Lists.{AllOf}
+use Rattle.kt_order.specs.Lists.{AllOf}
 
 set_same : (i : ℕ) (ph : Phase) (phases : List Phase) → i < length phases → untaken (set_phase i ph phases) i ≡ is_untaken ph
 set_same i ph [] less = absurd (omega (arith, less))

@@ -1,3 +1,4 @@
+pub mod Lists
 pub mod Body
 pub mod Machine
 pub mod Sequential
@@ -11,4 +12,6 @@ pub mod Lawful
 pub mod Shown
 pub mod Places
 pub mod Books
+pub mod Loops
+pub mod LoopTheorems
 pub mod Theorems

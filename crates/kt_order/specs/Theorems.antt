@@ -2,7 +2,8 @@
 use Rattle.std.specs.Prelude.{◌≡◌, ℕ, ◌≤◌, ◌<◌, List, ◌++◌, length, Some, ◌⊎◌}
 use Rattle.kt_order.specs.Machine.{Machine, Code}
 use Rattle.kt_order.specs.Sequential.{whole}
-use Rattle.kt_order.specs.Trace.{Operation, nth, trace, IsNext}
+use Rattle.kt_order.specs.Lists.{nth}
+use Rattle.kt_order.specs.Trace.{Operation, trace, IsNext}
 use Rattle.kt_order.specs.Stand.{Standing, stand, Heads}
 use Rattle.kt_order.specs.Laws.{Acts, Past, Rights, Laws, ApartLaws}
 use Rattle.kt_order.specs.Forest.{Place, Task}
