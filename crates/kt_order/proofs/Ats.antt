@@ -82,3 +82,16 @@ module _ (m : Machine) where
   pub at_not_nil : (P : Task m → Forest m → Type 0) (q : Place) (F : Forest m) → At m P q F → F ≡ Nil → ⊥
   at_not_nil P q Nil at e = at
   at_not_nil P q (Node u kids later) at e = cc
+
+  -- the task at the place, with its children
+  pub at_some : (P : Task m → Forest m → Type 0) (q : Place) (F : Forest m) → At m P q F → (u : Task m) × (kids : Forest m) × P u kids × At m (λ v below. (v ≡ u) × (below ≡ kids)) q F
+  at_some P q Nil at = absurd at
+  at_some P Here (Node u kids later) at = (u, kids, at, (refl, refl))
+  at_some P (Down q) (Node u kids later) at = at_some P q kids at
+  at_some P (Later q) (Node u kids later) at = at_some P q later at
+
+  pub at_both : (P Q : Task m → Forest m → Type 0) (q : Place) (F : Forest m) → At m P q F → At m Q q F → At m (λ u kids. P u kids × Q u kids) q F
+  at_both P Q q Nil x y = absurd x
+  at_both P Q Here (Node u kids later) x y = (x, y)
+  at_both P Q (Down q) (Node u kids later) x y = at_both P Q q kids x y
+  at_both P Q (Later q) (Node u kids later) x y = at_both P Q q later x y

@@ -16,3 +16,7 @@ pub mod Shown
 pub mod Agree
 pub mod Phases
 pub mod Books
+pub mod Children
+pub mod LoopBooks
+pub mod LoopSteps
+pub mod LoopIndexes

@@ -16,7 +16,7 @@ module _ (m : Machine) where
   tasks_of P Nil h = tt
   tasks_of P (Node u kids later) h = (h.0, tasks_of P later h.1)
 
-  no_calls : (F : Forest m) → calls m F ≡ [] → F ≡ Nil
+  pub no_calls : (F : Forest m) → calls m F ≡ [] → F ≡ Nil
   no_calls Nil e = refl
   no_calls (Node u kids later) e = cc
 

@@ -29,6 +29,9 @@ module _ (m : Machine) where
     abbrev pub EventKeepsLawful : Type 0
     EventKeepsLawful = Laws m r → (root : m.Call) (s : m.Store) (e : Event) (x : State m) → Enabled m r e x → Lawful m r root s x → Lawful m r root s (step m e x)
 
+    abbrev pub RunKeepsLawful : Type 0
+    RunKeepsLawful = Laws m r → (root : m.Call) (s : m.Store) (es : List Event) (x : State m) → Follows m r es x → Lawful m r root s x → Lawful m r root s (run m es x)
+
     -- the store and the entries of a finished state are those of the sequential run
     abbrev pub FinishedIsSequential : Type 0
     FinishedIsSequential = Laws m r → (root : m.Call) (s : m.Store) (x : State m) → Lawful m r root s x → AllFinished m x.forest → whole m root s ≡ record { store = x.store; entries = settled m x.forest }

@@ -3,6 +3,7 @@
 #![tactic(auto)]
 
 pub mod laws;
+pub mod loops;
 mod program;
 
 pub use program::Program;
