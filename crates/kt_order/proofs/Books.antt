@@ -1,11 +1,11 @@
 -- What is done to the book of a loop keeps it right.
-use Rattle.std.proofs.Common.{◌≡◌, ◌≢◌, ℕ, zero, suc, ◌+◌, ◌-◌, ◌≤◌, ◌<◌, min, Bool, true, false, cond, nat_eq, nat_lt, ◌&&◌, List, [], ◌∷◌, length, Some, ◌⊎◌, inl, inr, replicate, refl, sym, ap, subst, ◌∙◌, arith}
+use Rattle.std.proofs.Common.{◌≡◌, ◌≢◌, ℕ, zero, suc, ◌+◌, ◌-◌, ◌≤◌, ◌<◌, Bool, true, false, cond, nat_eq, nat_lt, ◌&&◌, List, [], ◌∷◌, length, Some, ◌⊎◌, inl, inr, replicate, refl, sym, ap, ◌∙◌, arith}
 use Rattle.std.proofs.lemmas.Bool.Decides.{nat_tests}
 use Rattle.kt_order.specs.Forest.{Phase, Unclaimed, Running, Ended, Finished}
 use Rattle.kt_order.specs.Lists.{nth}
-use Rattle.kt_order.specs.Books.{Piece, Book, below, holds, holding, NoneEmpty, is_untaken, untaken, is_done, done_in, NoneEnded, BookOk, one_piece, whole_book, is_inside, cut, left_of_piece, CanTake, take, set_phase, set_running}
+use Rattle.kt_order.specs.Books.{Piece, Book, below, holds, holding, NoneEmpty, is_untaken, untaken, done_in, NoneEnded, BookOk, one_piece, whole_book, is_inside, cut, left_of_piece, CanTake, take, set_phase, set_running}
 use Rattle.kt_order.specs.Lists.{AllOf}
-use Rattle.kt_order.proofs.Phases.{AllUntaken, Set, running_set, set_length, set_none_ended, ended_untaken, ended_done, done_le, all_done, look}
+use Rattle.kt_order.proofs.Phases.{AllUntaken, running_set, set_length, set_none_ended, ended_untaken, ended_done, done_le, all_done, look}
 
 -- a loop begins: one piece of all its indexes
 untaken_all : (n i : ℕ) → untaken (replicate n Unclaimed) i ≡ below n i

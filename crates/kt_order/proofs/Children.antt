@@ -1,10 +1,10 @@
 -- A change of one child, seen from its parent.
-use Rattle.std.proofs.Common.{◌≡◌, ℕ, zero, suc, List, [], ◌∷◌, Some, ◌⊎◌, inl, inr, refl, sym, ap, subst, arith}
+use Rattle.std.proofs.Common.{◌≡◌, ℕ, zero, suc, [], ◌∷◌, Some, inr, refl, ap, arith}
 use Rattle.kt_order.specs.Lists.{nth, AllOf}
 use Rattle.kt_order.specs.Machine.{Machine}
 use Rattle.kt_order.specs.Laws.{Rights}
-use Rattle.kt_order.specs.Forest.{Phase, Unclaimed, Running, Ended, Finished, Place, Here, Down, Later, Task, Forest, Nil, Node, calls, AllTasks, At, AtFrame, Before, change}
-use Rattle.kt_order.specs.Events.{Now, put, MayPass, IsFinished, AllFinished}
+use Rattle.kt_order.specs.Forest.{Phase, Unclaimed, Running, Ended, Finished, Place, Here, Down, Later, Task, Forest, Nil, Node, calls, At, AtFrame, Before, change}
+use Rattle.kt_order.specs.Events.{Now, put, MayPass, AllFinished}
 use Rattle.kt_order.specs.Books.{is_untaken, untaken, set_phase}
 use Rattle.kt_order.specs.Loops.{nth_place, child, phases, Pairwise}
 

@@ -1,10 +1,10 @@
 -- Each event of a loop is a list of enabled events of the theory.
-use Rattle.std.proofs.Common.{◌≡◌, ◌≤◌, ◌<◌, ◌+◌, ◌-◌, ℕ, zero, suc, List, [], ◌∷◌, ◌++◌, length, replicate, Option, Some, ◌⊎◌, inl, inr, refl, sym, ap, subst, ◌∙◌, append_assoc, append-nil, length-append, arith}
-use Rattle.kt_order.specs.Lists.{nth, AllOf}
-use Rattle.kt_order.specs.Machine.{Machine, Code}
+use Rattle.std.proofs.Common.{◌≡◌, ◌≤◌, ◌+◌, ◌-◌, ℕ, zero, suc, List, length, Some, ◌⊎◌, inl, inr, refl, sym, ap, subst, ◌∙◌, arith}
+use Rattle.kt_order.specs.Lists.{nth}
+use Rattle.kt_order.specs.Machine.{Machine}
 use Rattle.kt_order.specs.Laws.{Rights}
-use Rattle.kt_order.specs.Forest.{Phase, Unclaimed, Running, Ended, Finished, Place, Task, Forest, Nil, Node, calls, At, Before, change}
-use Rattle.kt_order.specs.Events.{Event, ClaimReady, Step, Finish, State, put, in_phase, same_frame, enter, run, IsFinished, AllFinished, MayPass, Enabled, Follows}
+use Rattle.kt_order.specs.Forest.{Phase, Unclaimed, Running, Ended, Place, Task, Forest, calls, At, Before, change}
+use Rattle.kt_order.specs.Events.{ClaimReady, Finish, State, put, in_phase, same_frame, enter, run, AllFinished, MayPass, Enabled, Follows}
 use Rattle.kt_order.specs.Books.{Book, BookOk, done_in, cut, CanTake, take, untaken, set_phase, set_running}
 use Rattle.kt_order.specs.Loops.{nth_place, child, take_events, phases, Pairwise, AreIndexes, HasBook}
 use Rattle.kt_order.specs.LoopTheorems.{LoopAt}
@@ -46,14 +46,14 @@ module _ (m : Machine) (rights : Rights m) where
   claim_one cs phs q at x apart free here = (
     (
       at_child m (λ v below. v.phase ≡ Unclaimed) q at x.forest (at_more m (Begun cs phs) (λ u kids. At m (λ v below. v.phase ≡ Unclaimed) (nth_place at) kids) (λ u kids h. untaken_at m at kids (subst (λ xs. untaken xs at ≡ 1) (sym h.2) free)) q x.forest here),
-      before_child m (MayPass m rights) q at x.forest (at_more m (Begun cs phs) (λ u kids. Before m (MayPass m rights) (nth_place at) kids) (λ u kids h. pairwise_before m rights at kids (subst (Pairwise m rights) (sym h.1) apart)) q x.forest here)
+      before_child m (MayPass m rights) q at x.forest (at_more m (Begun cs phs) (λ u kids. Before m (MayPass m rights) (nth_place at) kids) (λ u kids h. pairwise_before m rights at kids (subst (Pairwise m rights) (sym h.1) apart)) q x.forest here),
     ),
     change_child m (Begun cs (set_phase at Running phs)) (put m (in_phase m Running)) (same_frame m) q at x.forest
-    (at_more m (Begun cs phs) (λ u kids. Begun cs (set_phase at Running phs) u (change m (put m (in_phase m Running)) (same_frame m) (nth_place at) kids)) (λ u kids h. (
-      h.0,
-      calls_change m (in_phase m Running) (same_frame m) (nth_place at) kids ∙ h.1,
-      phases_change m (in_phase m Running) (same_frame m) Running at kids (at_more m (λ v below. v.phase ≡ Unclaimed) (λ v below. Running ≡ Running) (λ v below e. refl) (nth_place at) kids (untaken_at m at kids (subst (λ xs. untaken xs at ≡ 1) (sym h.2) free))) ∙ ap (set_phase at Running) h.2,
-    )) q x.forest here),
+        (at_more m (Begun cs phs) (λ u kids. Begun cs (set_phase at Running phs) u (change m (put m (in_phase m Running)) (same_frame m) (nth_place at) kids)) (λ u kids h. (
+          h.0,
+          calls_change m (in_phase m Running) (same_frame m) (nth_place at) kids ∙ h.1,
+          phases_change m (in_phase m Running) (same_frame m) Running at kids (at_more m (λ v below. v.phase ≡ Unclaimed) (λ v below. Running ≡ Running) (λ v below e. refl) (nth_place at) kids (untaken_at m at kids (subst (λ xs. untaken xs at ≡ 1) (sym h.2) free))) ∙ ap (set_phase at Running) h.2,
+        )) q x.forest here),
   )
 
   claims : (n at : ℕ) (cs : List m.Call) (phs : List Phase) (q : Place) (x : State m) → Pairwise m rights cs → AllUntaken at n phs → At m (Begun cs phs) q x.forest → Follows m rights (take_events q at n) x × At m (Begun cs (set_running at n phs)) q (run m (take_events q at n) x).forest
@@ -70,9 +70,11 @@ module _ (m : Machine) (rights : Rights m) where
       let phs = phases m k.1 in
       let begun = at_more m (λ v below. (v ≡ k.0) × (below ≡ k.1)) (Begun cs phs) (λ v below e. (ap (λ (t : Task m). t.phase) e.0 ∙ k.2.begun, ap (calls m) e.1, ap (phases m) e.1)) q x.forest k.3 in
       let all = claims n at cs phs q x k.2.indexes.apart (can_untaken b phs at n k.2.book can) begun in
-      let book = book_takes b phs at n k.2.book can in
-      (all.0, at_more m (Begun cs (set_running at n phs)) (HasBook m rights (record { pieces = take at n b.pieces; unretired = b.unretired })) (λ u kids h. record {
-        begun = h.0;
-        indexes = subst (AreIndexes m rights) (sym h.1) k.2.indexes;
-        book = subst (BookOk (record { pieces = take at n b.pieces; unretired = b.unretired })) (sym h.2) book;
-      }) q (run m (take_events q at n) x).forest all.1)
+      let book = book_takes b phs at n k.2.book can in (
+        all.0,
+        at_more m (Begun cs (set_running at n phs)) (HasBook m rights (record { pieces = take at n b.pieces; unretired = b.unretired })) (λ u kids h. record {
+          begun = h.0;
+          indexes = subst (AreIndexes m rights) (sym h.1) k.2.indexes;
+          book = subst (BookOk (record { pieces = take at n b.pieces; unretired = b.unretired })) (sym h.2) book;
+        }) q (run m (take_events q at n) x).forest all.1,
+      )

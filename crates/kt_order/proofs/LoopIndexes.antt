@@ -1,27 +1,23 @@
 -- An index of a loop goes on by its operations, and is finished with its end.
-use Rattle.std.proofs.Common.{◌≡◌, ◌≤◌, ◌<◌, ◌+◌, ◌-◌, ℕ, zero, suc, Bool, true, false, List, [], ◌∷◌, ◌++◌, length, replicate, Option, Some, None, ◌⊎◌, inl, inr, refl, sym, ap, subst, ◌∙◌, append_assoc, append-nil, length-append, arith}
+use Rattle.std.proofs.Common.{◌≡◌, ℕ, zero, suc, true, List, [], ◌∷◌, Some, refl, sym, ap, subst, ◌∙◌}
 use Rattle.kt_order.specs.Lists.{nth, AllOf}
-use Rattle.kt_order.specs.Body.{Body, Stop, Do, Fork}
+use Rattle.kt_order.specs.Body.{Stop, Do, Fork}
 use Rattle.kt_order.specs.Machine.{Machine, Code}
-use Rattle.kt_order.specs.Laws.{Rights, Laws}
-use Rattle.kt_order.specs.Stand.{Standing, fork_first, stand}
-use Rattle.kt_order.specs.Trace.{hearing}
-use Rattle.kt_order.specs.Forest.{Phase, Unclaimed, Running, Ended, Finished, Place, Here, Down, Later, Task, Forest, Nil, Node, calls, AllTasks, At, change, add_last, fresh}
-use Rattle.kt_order.specs.Rest.{left}
-use Rattle.kt_order.specs.Events.{Event, Step, Finish, State, Now, put, in_phase, did, forked, ended, same_frame, left_at, operate, enter, step, run, IsFinished, AllFinished, Enabled, Follows}
-use Rattle.kt_order.specs.Lawful.{TaskOk, Shape, Lawful}
-use Rattle.kt_order.specs.Books.{Book, BookOk, whole_book, set_phase}
-use Rattle.kt_order.specs.Loops.{nth_place, child, begin_events, index_events, forks_then, ForksNothing, phases, Pairwise, AreIndexes, HasBook}
+use Rattle.kt_order.specs.Laws.{Rights}
+use Rattle.kt_order.specs.Stand.{Standing, stand}
+use Rattle.kt_order.specs.Forest.{Phase, Running, Ended, Finished, Place, Task, Forest, Nil, Node, calls, At, change, add_last, fresh}
+use Rattle.kt_order.specs.Events.{Finish, State, Now, put, in_phase, did, forked, ended, same_frame, left_at, operate, enter, run, AllFinished, Enabled, Follows}
+use Rattle.kt_order.specs.Lawful.{TaskOk, Shape}
+use Rattle.kt_order.specs.Books.{Book, BookOk, set_phase}
+use Rattle.kt_order.specs.Loops.{nth_place, child, index_events, ForksNothing, phases, AreIndexes, HasBook}
 use Rattle.kt_order.specs.LoopTheorems.{LoopAt}
-use Rattle.kt_order.proofs.Stands.{stand_none, some_is, fork_some}
+use Rattle.kt_order.proofs.Stands.{stand_none, some_is}
 use Rattle.kt_order.proofs.Bounds.{hearing_bound}
 use Rattle.kt_order.proofs.Nodes.{no_calls}
-use Rattle.kt_order.proofs.Ats.{Doing, at_more, at_left, at_says, at_shape, at_some}
+use Rattle.kt_order.proofs.Ats.{at_more, at_shape}
 use Rattle.kt_order.proofs.Shapes.{calls_change}
-use Rattle.kt_order.proofs.Changes.{left_forked, calls_add_last}
-use Rattle.kt_order.proofs.Kept.{known, kept_operate}
-use Rattle.kt_order.proofs.Children.{at_child, at_change, change_child, nth_at, phases_change, phases_same, phases_nil}
-use Rattle.kt_order.proofs.Books.{book_begins, book_ends}
+use Rattle.kt_order.proofs.Children.{at_child, at_change, change_child, nth_at, phases_change, phases_same}
+use Rattle.kt_order.proofs.Books.{book_ends}
 
 -- the phase of an index is set twice
 set_twice : (i : ℕ) (ph first : Phase) (phs : List Phase) → set_phase i ph (set_phase i first phs) ≡ set_phase i ph phs
@@ -97,8 +93,7 @@ module _ (m : Machine) where
     index_by b q i x sh at (Stop f) e =
         let r = child q i in
         let running = child_running b q i x.forest at in
-        let can = at_change m (λ v below. (v.phase ≡ Ended) × AllFinished m below) (put m (ended m)) (same_frame m) r x.forest (at_more m (λ v below. below ≡ Nil) (λ v below. (Ended ≡ Ended) × AllFinished m below) (λ v below bare. (refl, subst (AllFinished m) (sym bare) tt)) r x.forest (child_bare b q i x.forest sh at)) in
-        (
+        let can = at_change m (λ v below. (v.phase ≡ Ended) × AllFinished m below) (put m (ended m)) (same_frame m) r x.forest (at_more m (λ v below. below ≡ Nil) (λ v below. (Ended ≡ Ended) × AllFinished m below) (λ v below bare. (refl, subst (AllFinished m) (sym bare) tt)) r x.forest (child_bare b q i x.forest sh at)) in (
           (running, (subst (λ (w : Code m). Enabled m rights (Finish r) (operate m w r x)) (sym e) can, tt)),
           subst (λ (w : Code m). LoopAt m rights b q (enter m Finished r (operate m w r x))) (sym e) (ends b q i x.forest at),
         )

@@ -1,26 +1,20 @@
 -- A loop begins by operations of its body, and its indexes go on by theirs.
-use Rattle.std.proofs.Common.{◌≡◌, ◌≤◌, ◌<◌, ◌+◌, ◌-◌, ℕ, zero, suc, Bool, true, false, List, [], ◌∷◌, ◌++◌, length, replicate, Option, Some, None, ◌⊎◌, inl, inr, refl, sym, ap, subst, ◌∙◌, append_assoc, append-nil, length-append, arith}
-use Rattle.kt_order.specs.Lists.{nth, AllOf}
-use Rattle.kt_order.specs.Body.{Body, Stop, Do, Fork}
+use Rattle.std.proofs.Common.{◌≡◌, ℕ, zero, suc, List, [], ◌∷◌, ◌++◌, length, replicate, Option, refl, sym, ap, subst, ◌∙◌, append_assoc, append-nil, length-append, arith}
+use Rattle.kt_order.specs.Body.{Stop, Fork}
 use Rattle.kt_order.specs.Machine.{Machine, Code}
 use Rattle.kt_order.specs.Laws.{Rights, Laws}
-use Rattle.kt_order.specs.Stand.{Standing, fork_first, stand}
-use Rattle.kt_order.specs.Trace.{hearing}
-use Rattle.kt_order.specs.Forest.{Phase, Unclaimed, Running, Ended, Finished, Place, Here, Down, Later, Task, Forest, Nil, Node, calls, AllTasks, At, change, add_last, fresh}
+use Rattle.kt_order.specs.Forest.{Unclaimed, Running, Ended, Place, Task, Forest, Nil, Node, calls, At, add_last, fresh}
 use Rattle.kt_order.specs.Rest.{left}
-use Rattle.kt_order.specs.Events.{Event, Step, Finish, State, Now, put, in_phase, did, forked, ended, same_frame, left_at, operate, enter, step, run, IsFinished, AllFinished, Enabled, Follows}
-use Rattle.kt_order.specs.Lawful.{TaskOk, Shape, Lawful}
-use Rattle.kt_order.specs.Books.{Book, BookOk, whole_book, set_phase}
-use Rattle.kt_order.specs.Loops.{nth_place, child, begin_events, index_events, forks_then, ForksNothing, phases, Pairwise, AreIndexes, HasBook}
+use Rattle.kt_order.specs.Events.{State, put, forked, ended, same_frame, left_at, operate, run, Follows}
+use Rattle.kt_order.specs.Lawful.{TaskOk, Lawful}
+use Rattle.kt_order.specs.Books.{BookOk, whole_book}
+use Rattle.kt_order.specs.Loops.{begin_events, forks_then, phases, AreIndexes, HasBook}
 use Rattle.kt_order.specs.LoopTheorems.{LoopAt}
-use Rattle.kt_order.proofs.Stands.{stand_none, some_is, fork_some}
-use Rattle.kt_order.proofs.Nodes.{no_calls}
-use Rattle.kt_order.proofs.Ats.{Doing, at_more, at_left, at_says, at_shape, at_some}
-use Rattle.kt_order.proofs.Shapes.{calls_change}
+use Rattle.kt_order.proofs.Ats.{Doing, at_more, at_left, at_says, at_shape}
 use Rattle.kt_order.proofs.Changes.{left_forked, calls_add_last}
-use Rattle.kt_order.proofs.Kept.{known, kept_operate}
-use Rattle.kt_order.proofs.Children.{at_child, at_change, change_child, nth_at, phases_change, phases_same, phases_nil}
-use Rattle.kt_order.proofs.Books.{book_begins, book_ends}
+use Rattle.kt_order.proofs.Kept.{kept_operate}
+use Rattle.kt_order.proofs.Children.{at_change, phases_nil}
+use Rattle.kt_order.proofs.Books.{book_begins}
 
 replicate_last : (n : ℕ) → replicate n Unclaimed ++ Unclaimed ∷ [] ≡ replicate (suc n) Unclaimed
 replicate_last zero = refl
@@ -66,19 +60,17 @@ module _ (m : Machine) where
     -- all forks, and the end
     begins : (cs ds : List m.Call) (f : Option m.Fault) (q : Place) (x : State m) → IsLawful x → At m (Opening ds cs f) q x.forest → Follows m rights (begin_events q (length cs)) x × At m (Open (ds ++ cs)) q (run m (begin_events q (length cs)) x).forest
     begins [] ds f q x h at =
-        let all = at_change m (Open ds) (put m (ended m)) (same_frame m) q x.forest (at_more m (Opening ds [] f) (λ u kids. Open ds (put m (ended m) u) kids) (λ u kids k. (refl, k.1, k.2)) q x.forest at) in
-        (
+        let all = at_change m (Open ds) (put m (ended m)) (same_frame m) q x.forest (at_more m (Opening ds [] f) (λ u kids. Open ds (put m (ended m) u) kids) (λ u kids k. (refl, k.1, k.2)) q x.forest at) in (
           (running ds [] f q x.forest at, tt),
           subst (λ (w : Code m). At m (Open (ds ++ [])) q (operate m w q x).forest) (sym (left_is_at ds [] f q x.forest at))
-          (subst (λ es. At m (Open es) q (operate m (Stop f) q x).forest) (sym (append-nil ds)) all),
+              (subst (λ es. At m (Open es) q (operate m (Stop f) q x).forest) (sym (append-nil ds)) all),
         )
     begins (c ∷ cs) ds f q x h at =
         let w = forks_then m cs f in
         let doing = at_more m (Opening ds (c ∷ cs) f) (Doing m (Fork c w)) (λ u kids k. k.0) q x.forest at in
         let more = begins cs (ds ++ c ∷ []) f q (operate m (Fork c w) q x) (kept_operate m rights l root s (Fork c w) q x doing h) (fork_one ds c cs f q x h at) in
         let all = subst (λ es. At m (Open es) q (run m (begin_events q (length cs)) (operate m (Fork c w) q x)).forest) (append_assoc ds (c ∷ []) cs) more.1 in
-        let left = sym (left_is_at ds (c ∷ cs) f q x.forest at) in
-        (
+        let left = sym (left_is_at ds (c ∷ cs) f q x.forest at) in (
           (running ds (c ∷ cs) f q x.forest at, subst (λ (v : Code m). Follows m rights (begin_events q (length cs)) (operate m v q x)) left more.0),
           subst (λ (v : Code m). At m (Open (ds ++ c ∷ cs)) q (run m (begin_events q (length cs)) (operate m v q x)).forest) left all,
         )
@@ -87,9 +79,11 @@ module _ (m : Machine) where
         → (let es = begin_events q (length cs) in Follows m rights es x × LoopAt m rights (whole_book (length cs)) q (run m es x))
     loop_begins x q cs f h indexes at =
         let opening = at_more m (λ u kids. (u.phase ≡ Running) × (left m u ≡ forks_then m cs f) × (kids ≡ Nil)) (Opening [] cs f) (λ u kids k. ((k.0, k.1), ap (calls m) k.2, phases_nil m kids k.2)) q x.forest at in
-        let all = begins cs [] f q x h opening in
-        (all.0, at_more m (Open cs) (HasBook m rights (whole_book (length cs))) (λ u kids k. record {
-          begun = k.0;
-          indexes = subst (AreIndexes m rights) (sym k.1) indexes;
-          book = subst (BookOk (whole_book (length cs))) (sym k.2) (book_begins (length cs));
-        }) q (run m (begin_events q (length cs)) x).forest all.1)
+        let all = begins cs [] f q x h opening in (
+          all.0,
+          at_more m (Open cs) (HasBook m rights (whole_book (length cs))) (λ u kids k. record {
+            begun = k.0;
+            indexes = subst (AreIndexes m rights) (sym k.1) indexes;
+            book = subst (BookOk (whole_book (length cs))) (sym k.2) (book_begins (length cs));
+          }) q (run m (begin_events q (length cs)) x).forest all.1,
+        )

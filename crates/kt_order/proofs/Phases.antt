@@ -1,5 +1,5 @@
 -- The phases of the indexes of a loop.
-use Rattle.std.proofs.Common.{◌≡◌, ◌≢◌, ℕ, zero, suc, ◌+◌, ◌-◌, ◌≤◌, ◌<◌, min, Bool, true, false, cond, nat_eq, nat_lt, ◌&&◌, List, [], ◌∷◌, length, Some, ◌⊎◌, inl, inr, replicate, refl, sym, ap, subst, ◌∙◌, arith}
+use Rattle.std.proofs.Common.{◌≡◌, ◌≢◌, ℕ, zero, suc, ◌+◌, ◌-◌, ◌≤◌, ◌<◌, List, [], ◌∷◌, length, Some, ◌⊎◌, inl, inr, refl, ap, subst, ◌∙◌, arith}
 use Rattle.kt_order.specs.Forest.{Phase, Unclaimed, Running, Ended, Finished}
 use Rattle.kt_order.specs.Lists.{nth}
 use Rattle.kt_order.specs.Books.{below, is_untaken, untaken, is_done, done_in, NoneEnded, set_phase, set_running}

@@ -1,5 +1,5 @@
 -- The book of a loop: which of its indexes are not taken yet, and how many are not retired.
-use Rattle.std.specs.Prelude.{◌≡◌, ◌≢◌, ℕ, zero, suc, ◌+◌, ◌-◌, ◌≤◌, ◌<◌, min, Bool, true, false, cond, nat_eq, nat_lt, ◌&&◌, List, [], ◌∷◌, length, ◌⊎◌}
+use Rattle.std.specs.Prelude.{◌≡◌, ◌≢◌, ℕ, zero, suc, ◌+◌, ◌-◌, ◌≤◌, ◌<◌, min, Bool, cond, nat_eq, nat_lt, ◌&&◌, List, [], ◌∷◌, length, ◌⊎◌}
 use Rattle.kt_order.specs.Forest.{Phase, Unclaimed, Running, Ended, Finished}
 
 -- the indexes from `from` up to `to`, `to` not included

@@ -1,5 +1,5 @@
 -- A loop in the theory: its indexes are its children, and each of its events is a list of events of the theory.
-use Rattle.std.specs.Prelude.{◌≡◌, ℕ, zero, suc, ◌+◌, ◌≤◌, ◌-◌, List, [], ◌∷◌, Option}
+use Rattle.std.specs.Prelude.{◌≡◌, ℕ, zero, suc, List, [], ◌∷◌, Option}
 use Rattle.kt_order.specs.Lists.{AllOf}
 use Rattle.kt_order.specs.Body.{Stop, Do, Fork}
 use Rattle.kt_order.specs.Machine.{Machine, Code}

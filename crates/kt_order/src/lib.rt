@@ -5,5 +5,7 @@
 pub mod laws;
 pub mod loops;
 mod program;
+#[cfg(test)]
+mod tests;
 
 pub use program::Program;

@@ -1,5 +1,5 @@
 -- The statements: the tables of modes give the laws of the theory, and what follows.
-use Rattle.std.specs.Prelude.{◌≡◌, ℕ, true, false, List}
+use Rattle.std.specs.Prelude.{◌≡◌, ◌≢◌, ℕ, true, false, List}
 use Rattle.kt_law.specs.Modes.{agree_of, is_postponed}
 use Rattle.kt_law.specs.Accesses.{HasObject}
 use Rattle.kt_order.specs.Sequential.{whole}
@@ -10,7 +10,7 @@ use Rattle.kt_order.specs.Lawful.{Lawful}
 use Rattle.kt_order.specs.Shown.{settled}
 use Rattle.kt_order.specs.Places.{Separate, Stands, IsUnderWay, Chain}
 use Rattle.kt_rights.specs.Plan.{Plan, machine}
-use Rattle.kt_rights.specs.Rights.{EachOf, Owns, HandsOn, rights, Obeys}
+use Rattle.kt_rights.specs.Rights.{EachOf, Owns, HandsOn, HasIndex, Apart, rights, Obeys}
 
 module _ (p : Plan) where
   abbrev pub TablesGiveLaws : Type 0
@@ -39,3 +39,7 @@ module _ (p : Plan) where
   -- a call forks a call, from which a third one comes
   abbrev pub InLineAgree : Type 0
   InLineAgree = Obeys p → (c d e : p.Call) (es : List p.Call) → p.Fits c → HandsOn p c d → Chain (machine p) (rights p) d es e → DirectModesAgree c d × DirectModesAgree c e
+
+  -- two indexes of a loop, all of whose accesses are direct and none of which clash
+  abbrev pub IndexesAreApart : Type 0
+  IndexesAreApart = Obeys p → (loop c d : p.Call) (first : HasIndex p loop c) (second : HasIndex p loop d) → p.Fits loop → EachOf (λ a. is_postponed a.mode ≡ false) (p.accesses loop) → first.index ≢ second.index → Apart p c d

@@ -1,5 +1,5 @@
 //! The laws that the tables of modes give. The functions do nothing; their contracts are the laws.
-ghost use Rattle.kt_rights.specs.Theorems.{AccessesFreeTheOrder, InLineAgree, SideBySideAgree, TablesGiveApartLaws, TablesGiveLaws};
+ghost use Rattle.kt_rights.specs.Theorems.{AccessesFreeTheOrder, InLineAgree, IndexesAreApart, SideBySideAgree, TablesGiveApartLaws, TablesGiveLaws};
 
 use crate::Source;
 use kt_law::laws::{
@@ -46,6 +46,10 @@ pub fn in_line_agree<S: Source>()
     ensures { InLineAgree S.plan }
 {
     agreement_is_symmetric();
-    clash_is_symmetric();
     hands_on_less();
 }
+
+/// Two indexes of one loop, whose accesses are all direct, are apart.
+pub fn indexes_are_apart<S: Source>()
+    ensures { IndexesAreApart S.plan }
+{}

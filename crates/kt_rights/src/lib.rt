@@ -4,5 +4,7 @@
 
 pub mod laws;
 mod source;
+#[cfg(test)]
+mod tests;
 
 pub use source::Source;
