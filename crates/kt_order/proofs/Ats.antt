@@ -1,7 +1,7 @@
 -- What holds at a place of a forest, and before it.
-use Rattle.std.proofs.Common.{◌≡◌, ℕ, refl}
+use Rattle.std.proofs.Common.{◌≡◌, ℕ, refl, ap}
 use Rattle.kt_order.specs.Machine.{Machine, Code}
-use Rattle.kt_order.specs.Forest.{Unclaimed, Running, Place, Here, Down, Later, Task, Forest, Nil, Node, AllTasks, At, AtFrame, Before}
+use Rattle.kt_order.specs.Forest.{Unclaimed, Running, Place, Here, Down, Later, Task, Forest, Nil, Node, AllTasks, At, AtFrame, Before, change}
 use Rattle.kt_order.specs.Rest.{left, still}
 use Rattle.kt_order.specs.Laws.{Rights}
 use Rattle.kt_order.specs.Events.{left_at}
@@ -95,3 +95,10 @@ module _ (m : Machine) where
   at_both P Q Here (Node u kids later) x y = (x, y)
   at_both P Q (Down q) (Node u kids later) x y = at_both P Q q kids x y
   at_both P Q (Later q) (Node u kids later) x y = at_both P Q q later x y
+
+  -- two changes at one place
+  pub change_twice : (f f' : Task m → Task m) (g g' : Forest m → Forest m) (q : Place) (F : Forest m) → change m f' g' q (change m f g q F) ≡ change m (λ u. f' (f u)) (λ k. g' (g k)) q F
+  change_twice f f' g g' q Nil = refl
+  change_twice f f' g g' Here (Node u kids later) = refl
+  change_twice f f' g g' (Down q) (Node u kids later) = ap (λ k. Node u k later) (change_twice f f' g g' q kids)
+  change_twice f f' g g' (Later q) (Node u kids later) = ap (Node u kids) (change_twice f f' g g' q later)

@@ -20,3 +20,14 @@ pub mod Children
 pub mod LoopBooks
 pub mod LoopSteps
 pub mod LoopIndexes
+pub mod Forks
+pub mod PathChanges
+pub mod PathsAt
+pub mod PathsAdd
+pub mod Squares
+pub mod ByPaths
+pub mod PathGoes
+pub mod PathThere
+pub mod PathDone
+pub mod PathEntries
+pub mod PathBegins

@@ -15,3 +15,7 @@ pub mod Books
 pub mod Loops
 pub mod LoopTheorems
 pub mod Theorems
+pub mod Paths
+pub mod Named
+pub mod Listed
+pub mod PathTheorems

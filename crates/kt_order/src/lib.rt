@@ -4,6 +4,7 @@
 
 pub mod laws;
 pub mod loops;
+pub mod paths;
 mod program;
 #[cfg(test)]
 mod tests;

@@ -1,7 +1,7 @@
 ghost use Rattle.kt_order.specs.Body.{Stop};
 ghost use Rattle.std.specs.Prelude.{None, true, ℕ};
 
-use crate::{Program, laws, loops};
+use crate::{Program, laws, loops, paths};
 
 /// A program of one call, whose body ends at once.
 struct Idle;
@@ -38,4 +38,17 @@ fn laws_of_loops_hold_of_a_program() {
     loops::loop_retires::<Idle>();
     loops::loop_finishes::<Idle>();
     loops::loop_goes_on::<Idle>();
+}
+
+#[test]
+fn laws_by_paths_hold_of_a_program() {
+    paths::claim_at_path::<Idle>();
+    paths::finish_at_path::<Idle>();
+    paths::end_at_path::<Idle>();
+    paths::act_at_path::<Idle>();
+    paths::fork_at_path::<Idle>();
+    paths::some_path_goes::<Idle>();
+    paths::finished_by_paths::<Idle>();
+    paths::path_begins_entry::<Idle>();
+    paths::forks_have_entries::<Idle>();
 }
