@@ -1,7 +1,7 @@
 -- What holds at a place of a forest, and before it.
-use Rattle.std.proofs.Common.{◌≡◌, ℕ, refl}
+use Rattle.std.proofs.Common.{◌≡◌, ℕ, refl, ap}
 use Rattle.kt_order.specs.Machine.{Machine, Code}
-use Rattle.kt_order.specs.Forest.{Unclaimed, Running, Place, Here, Down, Later, Task, Forest, Nil, Node, AllTasks, At, AtFrame, Before}
+use Rattle.kt_order.specs.Forest.{Unclaimed, Running, Place, Here, Down, Later, Task, Forest, Nil, Node, AllTasks, At, AtFrame, Before, change}
 use Rattle.kt_order.specs.Rest.{left, still}
 use Rattle.kt_order.specs.Laws.{Rights}
 use Rattle.kt_order.specs.Events.{left_at}
@@ -82,3 +82,23 @@ module _ (m : Machine) where
   pub at_not_nil : (P : Task m → Forest m → Type 0) (q : Place) (F : Forest m) → At m P q F → F ≡ Nil → ⊥
   at_not_nil P q Nil at e = at
   at_not_nil P q (Node u kids later) at e = cc
+
+  -- the task at the place, with its children
+  pub at_some : (P : Task m → Forest m → Type 0) (q : Place) (F : Forest m) → At m P q F → (u : Task m) × (kids : Forest m) × P u kids × At m (λ v below. (v ≡ u) × (below ≡ kids)) q F
+  at_some P q Nil at = absurd at
+  at_some P Here (Node u kids later) at = (u, kids, at, (refl, refl))
+  at_some P (Down q) (Node u kids later) at = at_some P q kids at
+  at_some P (Later q) (Node u kids later) at = at_some P q later at
+
+  pub at_both : (P Q : Task m → Forest m → Type 0) (q : Place) (F : Forest m) → At m P q F → At m Q q F → At m (λ u kids. P u kids × Q u kids) q F
+  at_both P Q q Nil x y = absurd x
+  at_both P Q Here (Node u kids later) x y = (x, y)
+  at_both P Q (Down q) (Node u kids later) x y = at_both P Q q kids x y
+  at_both P Q (Later q) (Node u kids later) x y = at_both P Q q later x y
+
+  -- two changes at one place
+  pub change_twice : (f f' : Task m → Task m) (g g' : Forest m → Forest m) (q : Place) (F : Forest m) → change m f' g' q (change m f g q F) ≡ change m (λ u. f' (f u)) (λ k. g' (g k)) q F
+  change_twice f f' g g' q Nil = refl
+  change_twice f f' g g' Here (Node u kids later) = refl
+  change_twice f f' g g' (Down q) (Node u kids later) = ap (λ k. Node u k later) (change_twice f f' g g' q kids)
+  change_twice f f' g g' (Later q) (Node u kids later) = ap (Node u kids) (change_twice f f' g g' q later)

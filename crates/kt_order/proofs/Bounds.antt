@@ -5,7 +5,7 @@ use Rattle.kt_order.specs.Machine.{Machine, Code}
 use Rattle.kt_order.specs.Trace.{hearing}
 use Rattle.kt_order.specs.Stand.{Standing, stand}
 use Rattle.kt_order.specs.Laws.{Acts, Within}
-use Rattle.kt_order.proofs.Lists.{AllOf}
+use Rattle.kt_order.specs.Lists.{AllOf}
 use Rattle.kt_order.proofs.Stands.{stand_none, some_is, fork_some}
 
 module _ (m : Machine) where
@@ -21,7 +21,7 @@ module _ (m : Machine) where
     pub under : AllOf (λ d. Acts m (E d) st.left) st.forks
     pub stops : st.over ≡ true → IsStop st.left
 
-  hearing_bound : (P : Standing m → Type 0) (T : m.Answer → List m.Answer → Option (Standing m)) (st : Standing m) (b : Bool) (answers : List m.Answer) → ((a : m.Answer) (more : List m.Answer) → T a more ≡ Some st → P st) → hearing m b None T answers ≡ Some st → P st
+  pub hearing_bound : (P : Standing m → Type 0) (T : m.Answer → List m.Answer → Option (Standing m)) (st : Standing m) (b : Bool) (answers : List m.Answer) → ((a : m.Answer) (more : List m.Answer) → T a more ≡ Some st → P st) → hearing m b None T answers ≡ Some st → P st
   hearing_bound P T st true [] h e = cc
   hearing_bound P T st true (a ∷ more) h e = h a more e
   hearing_bound P T st false answers h e = h m.none answers e

@@ -47,7 +47,7 @@ module _ (m : Machine) where
     add_last_shape c fit Nil sh = (fresh_ok c fit, tt, tt, tt)
     add_last_shape c fit (Node u kids later) sh = (sh.0, add_last_all (Beside m rights u) (fresh m c) (inl refl) later sh.1, sh.2, add_last_shape c fit later sh.3)
 
-    calls_add_last : (c : m.Call) (F : Forest m) → calls m (add_last m (fresh m c) F) ≡ calls m F ++ c ∷ []
+    pub calls_add_last : (c : m.Call) (F : Forest m) → calls m (add_last m (fresh m c) F) ≡ calls m F ++ c ∷ []
     calls_add_last c Nil = refl
     calls_add_last c (Node u kids later) = ap (λ cs. u.call ∷ cs) (calls_add_last c later)
 

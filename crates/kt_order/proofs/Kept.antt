@@ -101,7 +101,7 @@ module _ (m : Machine) (rights : Rights m) (l : Laws m rights) (root : m.Call) (
   pub whole_done : (x : State m) → IsLawful x → AllFinished m x.forest → whole m root s ≡ record { store = x.store; entries = settled m x.forest }
   whole_done x h done = sym h.rest ∙ rest_settled m rights l x.forest h.shape done x.store
 
-  kept_run : (es : List Event) (x : State m) → Follows m rights es x → IsLawful x → IsLawful (run m es x)
+  pub kept_run : (es : List Event) (x : State m) → Follows m rights es x → IsLawful x → IsLawful (run m es x)
   kept_run [] x f h = h
   kept_run (e ∷ es) x f h = kept_run es (step m e x) f.1 (kept e x f.0 h)
 

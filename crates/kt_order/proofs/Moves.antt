@@ -7,7 +7,7 @@ use Rattle.kt_order.specs.Laws.{Acts, Commutes, Within, Past, Rights, Laws}
 use Rattle.kt_order.specs.Forest.{Task, Forest, Nil, Node, AllTasks}
 use Rattle.kt_order.specs.Rest.{left, rest_of_one, rest}
 use Rattle.kt_order.specs.Lawful.{Shape}
-use Rattle.kt_order.proofs.Lists.{AllOf}
+use Rattle.kt_order.specs.Lists.{AllOf}
 use Rattle.kt_order.proofs.Nodes.{node_is}
 
 module _ (m : Machine) where

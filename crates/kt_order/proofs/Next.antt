@@ -2,7 +2,8 @@
 use Rattle.std.proofs.Common.{◌≡◌, ◌≢◌, ◌<◌, ℕ, zero, suc, Bool, true, false, cond, List, [], ◌∷◌, ◌++◌, Option, Some, None, refl, sym, subst, arith}
 use Rattle.kt_order.specs.Body.{Stop, Do, Fork}
 use Rattle.kt_order.specs.Machine.{Machine, Code}
-use Rattle.kt_order.specs.Trace.{Operation, Acted, Forked, Ended, hearing, trace, nth, heard, IsNext}
+use Rattle.kt_order.specs.Lists.{nth}
+use Rattle.kt_order.specs.Trace.{Operation, Acted, Forked, Ended, hearing, trace, heard, IsNext}
 use Rattle.kt_order.specs.Stand.{Standing, stand, Heads}
 use Rattle.kt_order.proofs.Stands.{stand_none, fork_some}
 

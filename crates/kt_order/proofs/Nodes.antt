@@ -7,7 +7,7 @@ use Rattle.kt_order.specs.Forest.{Unclaimed, Finished, Task, Forest, Nil, Node, 
 use Rattle.kt_order.specs.Rest.{left_of, left}
 use Rattle.kt_order.specs.Events.{AllFinished}
 use Rattle.kt_order.specs.Lawful.{PhaseOk, TaskOk}
-use Rattle.kt_order.proofs.Lists.{AllOf}
+use Rattle.kt_order.specs.Lists.{AllOf}
 use Rattle.kt_order.proofs.Stands.{stand_none}
 use Rattle.kt_order.proofs.Bounds.{IsStop, Bounded, bounded}
 
@@ -16,7 +16,7 @@ module _ (m : Machine) where
   tasks_of P Nil h = tt
   tasks_of P (Node u kids later) h = (h.0, tasks_of P later h.1)
 
-  no_calls : (F : Forest m) → calls m F ≡ [] → F ≡ Nil
+  pub no_calls : (F : Forest m) → calls m F ≡ [] → F ≡ Nil
   no_calls Nil e = refl
   no_calls (Node u kids later) e = cc
 

@@ -7,7 +7,8 @@ use Rattle.kt_order.specs.Laws.{Past, Rights, Laws}
 use Rattle.kt_order.specs.Forest.{Phase, Running, Place, Here, Down, Later, Task, Forest, Nil, Node, At, change, add_last, fresh}
 use Rattle.kt_order.specs.Rest.{left, still, rest_of_one, rest}
 use Rattle.kt_order.specs.Events.{put, in_phase, did, forked, ended, same_frame, run}
-use Rattle.kt_order.proofs.Lists.{AllOf, all_of_more}
+use Rattle.kt_order.specs.Lists.{AllOf}
+use Rattle.kt_order.proofs.Lists.{all_of_more}
 use Rattle.kt_order.proofs.Moves.{moved, Passes, alone_forks}
 
 module _ (m : Machine) where

@@ -2,7 +2,8 @@
 use Rattle.std.specs.Prelude.{◌≡◌, ℕ, ◌≤◌, ◌<◌, List, ◌++◌, length, Some, ◌⊎◌}
 use Rattle.kt_order.specs.Machine.{Machine, Code}
 use Rattle.kt_order.specs.Sequential.{whole}
-use Rattle.kt_order.specs.Trace.{Operation, nth, trace, IsNext}
+use Rattle.kt_order.specs.Lists.{nth}
+use Rattle.kt_order.specs.Trace.{Operation, trace, IsNext}
 use Rattle.kt_order.specs.Stand.{Standing, stand, Heads}
 use Rattle.kt_order.specs.Laws.{Acts, Past, Rights, Laws, ApartLaws}
 use Rattle.kt_order.specs.Forest.{Place, Task}
@@ -27,6 +28,9 @@ module _ (m : Machine) where
 
     abbrev pub EventKeepsLawful : Type 0
     EventKeepsLawful = Laws m r → (root : m.Call) (s : m.Store) (e : Event) (x : State m) → Enabled m r e x → Lawful m r root s x → Lawful m r root s (step m e x)
+
+    abbrev pub RunKeepsLawful : Type 0
+    RunKeepsLawful = Laws m r → (root : m.Call) (s : m.Store) (es : List Event) (x : State m) → Follows m r es x → Lawful m r root s x → Lawful m r root s (run m es x)
 
     -- the store and the entries of a finished state are those of the sequential run
     abbrev pub FinishedIsSequential : Type 0
