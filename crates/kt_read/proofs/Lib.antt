@@ -1,1 +1,6 @@
 pub mod RowTexts
+pub mod Many
+pub mod ThinParts
+pub mod ThinWhole
+pub mod WordNames
+pub mod ToData

@@ -4,8 +4,11 @@
 mod cursors;
 mod descent;
 mod rows;
+mod thin_jobs;
 mod tokens;
+mod words;
 
 pub use cursors::Thin;
 pub use rows::rows_bytes;
+pub use thin_jobs::read_thin;
 pub use tokens::{Mark, Symbol, Tok};
