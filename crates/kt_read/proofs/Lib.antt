@@ -4,3 +4,4 @@ pub mod ThinParts
 pub mod ThinWhole
 pub mod WordNames
 pub mod ToData
+pub mod Reading

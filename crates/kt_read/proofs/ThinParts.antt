@@ -30,7 +30,7 @@ use Rattle.kt_read.proofs.Many.{Agrees, bind_some, some_is, all_sound, all_compl
 
 -- ---- one token
 
-none_is : {A : Type 0} (x : A) → (let nothing : Option A = None in nothing) ≡ Some x → ⊥
+pub none_is : {A : Type 0} (x : A) → (let nothing : Option A = None in nothing) ≡ Some x → ⊥
 none_is x e = cc
 
 mark_true : (m : Mark) (s : Symbol) → is_mark m s ≡ true → s ≡ S.Mark m

@@ -1,8 +1,9 @@
 -- A token that is a word may be a name.
 use Rattle.std.proofs.Common.{◌≡◌, ℕ, ◌+◌, ◌-◌, ◌<◌, ◌≤◌, ◌^◌, Bool, true, false, cond, List, [], ◌∷◌, length, take, drop, get_or, refl, ap, sym, subst, ◌∙◌, arith, Result, Ok, Err, IfOk, slice_index, slice_range, nat_lt, nat_le, inl, inr}
+use Rattle.std.specs.Prelude.{◌==◌, ◌||◌}
 use Rattle.std.specs.Char.{is_ascii_digit}
 use Rattle.std.specs.List.{prefix_len}
-use Rattle.std.specs.Str.{IsAscii}
+use Rattle.std.specs.Str.{byte, IsAscii}
 use Rattle.std.proofs.lemmas.Bool.{cases_lt}
 use Rattle.std.proofs.lemmas.Bool.Decides.{nat_tests}
 use Rattle.std.proofs.lemmas.List.{get_or-take, get_or_past}
@@ -10,7 +11,7 @@ use Rattle.std.proofs.lemmas.List.Folds.{length-prefix_len}
 use Rattle.std.proofs.lemmas.List.Sums.{prefix_len_passes}
 use Rattle.kt_law.specs.declared.limits.TheConstants.{WORD_BYTES}
 use Rattle.kt_law.specs.declared.places.P.{P}
-use Rattle.kt_law.specs.declared.places.P.TheVariants.{P2, P3}
+use Rattle.kt_law.specs.declared.places.P.TheVariants.{P1, P2, P3}
 use Rattle.kt_prog.specs.Names.{IsName}
 use Rattle.kt_text.specs.declared.tokens.Token.{Token}
 use Rattle.kt_text.specs.declared.tokens.TokenKind.{TokenKind}
@@ -74,9 +75,9 @@ number_name text =
     (λ _. other_kind text (K.Number (value_of (take n text))) n (number_other (value_of (take n text)))))
 
 sign_name : (text : List ℕ) (a b : ℕ) → IsNameIn text (sign_of a b)
-sign_name text a b = cases (IsNameIn text) _ (λ _. other_kind text K.Sign 2 sign_other)
-    (λ _. cases (IsNameIn text) _ (λ _. other_kind text K.Sign 1 sign_other)
-    (λ _. cases (IsNameIn text) _ (λ _. refused text _) (λ _. refused text _)))
+sign_name text a b = cases (IsNameIn text) (is_pair a b) (λ _. other_kind text K.Sign 2 sign_other)
+    (λ _. cases (IsNameIn text) (is_single a) (λ _. other_kind text K.Sign 1 sign_other)
+    (λ _. cases (IsNameIn text) (a == byte "!" || a == byte ".") (λ _. refused text P2) (λ _. refused text P1)))
 
 lexeme_name : (text : List ℕ) → IsNameIn text (lexeme_of text)
 lexeme_name [] = other_kind [] K.End 0 end_other

@@ -5,7 +5,7 @@ ghost use Rattle.kt_read.specs.TokenLists.{AreToData, HasNoData};
 
 use crate::cursors::{Thin, Tokens};
 use crate::descent::thin;
-use crate::tokens::{Mark, Symbol, Tok};
+use crate::tokens::Tok;
 use crate::words::tok;
 use kt_prog::Program;
 use kt_text::Lexer;
@@ -40,13 +40,13 @@ fn toks_to_data(alloc: Global, job: &[u8]) -> Result<(Vec<Tok>, usize), Thin>
             return Err(Thin::NotBuilt);
         };
         let next = tok(job, &token);
-        match next.symbol {
-            Symbol::End => return Err(Thin::NotBuilt),
-            Symbol::Mark(Mark::Data) => {
-                toks.push(next)?;
-                return Ok((toks, token.stop));
-            }
-            _ => toks.push(next)?,
+        if next.symbol.is_end() {
+            return Err(Thin::NotBuilt);
+        }
+        let last = next.symbol.is_data();
+        toks.push(next)?;
+        if last {
+            return Ok((toks, token.stop));
         }
     }
 }

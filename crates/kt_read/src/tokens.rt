@@ -1,4 +1,7 @@
 // Tokens as the grammar sees them.
+ghost use Rattle.std.specs.Prelude.{◌≡◌, ◌↔◌, IsTrue};
+ghost use Rattle.kt_read.specs.declared.tokens.Mark.TheVariants.{Data};
+ghost use Rattle.kt_read.specs.declared.tokens.Symbol.TheVariants as S;
 
 use kt_law::Place;
 use kt_prog::Name;
@@ -52,6 +55,21 @@ pub enum Symbol {
     Number(u64),
     /// The end of the text.
     End,
+}
+
+impl Symbol {
+    /// Whether it is the word `data`, behind which no token is read.
+    pub fn is_data(&self) -> bool
+        ensures { IsTrue result ↔ (self.now ≡ S.Mark Data) }
+    {
+        matches!(self, Symbol::Mark(Mark::Data))
+    }
+
+    pub fn is_end(&self) -> bool
+        ensures { IsTrue result ↔ (self.now ≡ S.End) }
+    {
+        matches!(self, Symbol::End)
+    }
 }
 
 /// A token with the place of its first byte.
