@@ -1,0 +1,70 @@
+// State words: how far the task of a record is, and which task of which frame it is.
+ghost use Rattle.std.specs.Prelude.{◌≡◌, ◌≢◌, ◌<◌, IfSome, IfNone};
+ghost use Rattle.kt_words.specs.BitFields.{Unpacks};
+ghost use Rattle.kt_words.specs.Words.{IsStateWord, packed_state, stand_number, worker_number};
+
+use kt_law::Stand;
+
+use crate::bits::{joined, split};
+
+/// What the state word of a record says. A record without a task has frame 0 and fork 0.
+#[derive(Clone, Copy, Debug, PartialEq, Eq)]
+pub struct StateWord {
+    /// The number of the task's frame, from 1 on for each worker; 0 for `main`.
+    pub frame: u64,
+    /// The number of the task's fork in its frame, from 1 on; 0 for `main`.
+    pub fork: u32,
+    pub stand: Stand,
+}
+
+/// The word that says this state.
+#[tactic(auto, unfolding(crate::specs::Words::packed_state))]
+pub fn pack_state(v: &StateWord) -> u64
+    requires { IsStateWord v.now }
+    ensures { result ≡ packed_state v.now }
+{
+    let (number, worker) = numbers(v.stand);
+    joined(number, 3, joined(worker, 3, joined(u64::from(v.fork), 17, v.frame)))
+}
+
+/// The state that a word says, none where the word is not packed from a state.
+pub fn unpack_state(word: u64) -> Option<StateWord>
+    ensures { Unpacks IsStateWord packed_state word result }
+{
+    if word == 0 {
+        return Some(StateWord { frame: 0, fork: 0, stand: Stand::Empty });
+    }
+    let (number, rest) = split(word, 3);
+    let (worker, rest) = split(rest, 3);
+    let (fork, frame) = split(rest, 17);
+    let stand = stand_of_task(number, worker as u32)?;
+    Some(StateWord { frame, fork: fork as u32, stand })
+}
+
+/// The number of a stand, and that of its worker.
+fn numbers(stand: Stand) -> (u64, u64)
+    ensures stand { result.0 ≡ stand_number stand }
+    ensures worker { result.1 ≡ worker_number stand }
+{
+    match stand {
+        Stand::Empty => (0, 0),
+        Stand::Unclaimed => (1, 0),
+        Stand::Given(worker) => (2, u64::from(worker)),
+        Stand::Running(worker) => (3, u64::from(worker)),
+        Stand::Finished => (4, 0),
+    }
+}
+
+/// The stand of a task with these numbers.
+fn stand_of_task(number: u64, worker: u32) -> Option<Stand>
+    ensures found { IfSome result (λ stand. (stand_number stand ≡ number) × (worker_number stand ≡ worker) × (number ≢ 0)) }
+    ensures none { IfNone result ((stand : Stand) → stand_number stand ≡ number → worker_number stand ≡ worker → stand ≡ Stand.Empty) }
+{
+    match number {
+        1 if worker == 0 => Some(Stand::Unclaimed),
+        2 => Some(Stand::Given(worker)),
+        3 => Some(Stand::Running(worker)),
+        4 if worker == 0 => Some(Stand::Finished),
+        _ => None,
+    }
+}
