@@ -4,9 +4,13 @@ ghost use Rattle.kt_law.specs.Modes.{op_number};
 ghost use Rattle.kt_words.specs.BitFields.{Unpacks};
 ghost use Rattle.kt_words.specs.Words.{IsAccess, packed_access, mode_number, mode_op};
 
+use crate::bits::{joined, split};
 use kt_law::{Access, Mode, Op};
 
-use crate::bits::{joined, split};
+// The widths of the fields below the op, from bit 0 on; `lo` and `hi` have one width.
+const OBJECT_BITS: u32 = 20;
+
+const MODE_BITS: u32 = 3;
 
 /// The word of an access.
 #[tactic(auto, unfolding(crate::specs::Words::packed_access))]
@@ -15,21 +19,26 @@ pub fn pack_access(v: &Access) -> u64
     ensures { result ≡ packed_access v.now }
 {
     let (mode, op) = numbers(v.mode);
-    joined(u64::from(v.lo), 20, joined(u64::from(v.hi), 20, joined(mode, 3, op)))
+    let above = joined(u64::from(v.hi), OBJECT_BITS, joined(mode, MODE_BITS, op));
+    joined(u64::from(v.lo), OBJECT_BITS, above)
 }
 
 /// The access that a word says, none where the word is not packed from an access.
 pub fn unpack_access(word: u64) -> Option<Access>
     ensures { Unpacks IsAccess packed_access word result }
 {
-    let (lo, rest) = split(word, 20);
-    let (hi, rest) = split(rest, 20);
-    let (number, op) = split(rest, 3);
+    let (lo, rest) = split(word, OBJECT_BITS);
+    let (hi, rest) = split(rest, OBJECT_BITS);
+    let (number, op) = split(rest, MODE_BITS);
     if hi < lo {
         return None;
     }
     let mode = mode_with(number, op)?;
-    Some(Access { lo: lo as u32, hi: hi as u32, mode })
+    Some(Access {
+        lo: lo as u32,
+        hi: hi as u32,
+        mode,
+    })
 }
 
 /// The number of a mode, and that of its op.

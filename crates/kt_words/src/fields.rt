@@ -1,5 +1,8 @@
 //! The fields of a record, of which [`crate::FIELDS`] is the number.
 
+use crate::FIELDS;
+use kt_law::{ACCESSES, INTS};
+
 /// The state word.
 pub const STATE: u32 = 0;
 
@@ -20,3 +23,7 @@ pub const FIRST_INT: u32 = 5;
 
 /// The first of the access words.
 pub const FIRST_ACCESS: u32 = 13;
+
+const _: () = prove!(FIRST_INT + INTS as u32 == FIRST_ACCESS);
+
+const _: () = prove!(FIRST_ACCESS + ACCESSES as u32 == FIELDS);

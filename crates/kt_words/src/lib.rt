@@ -10,6 +10,8 @@ mod layouts;
 mod pairs;
 mod posts;
 mod states;
+#[cfg(test)]
+mod tests;
 
 pub use access_words::{pack_access, unpack_access};
 pub use heads::{HeadWord, pack_head, unpack_head};

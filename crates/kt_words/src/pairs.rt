@@ -1,9 +1,11 @@
 // Pairs of numbers.
-ghost use Rattle.std.specs.Prelude.{◌≡◌};
+ghost use Rattle.std.specs.Prelude.{◌≡◌, IsSome};
 ghost use Rattle.kt_words.specs.BitFields.{Unpacks};
 ghost use Rattle.kt_words.specs.Words.{IsPair, packed_pair};
 
 use crate::bits::{joined, split};
+
+const HALF_BITS: u32 = 32;
 
 /// Two numbers in one word, such as the ends of an interval. Either may be the larger.
 #[derive(Clone, Copy, Debug, PartialEq, Eq)]
@@ -19,13 +21,17 @@ pub struct Pair {
 pub fn pack_pair(v: &Pair) -> u64
     ensures { result ≡ packed_pair v.now }
 {
-    joined(u64::from(v.low), 32, u64::from(v.high))
+    joined(u64::from(v.low), HALF_BITS, u64::from(v.high))
 }
 
 /// The halves of a word. Every word has them.
 pub fn unpack_pair(word: u64) -> Option<Pair>
-    ensures { Unpacks IsPair packed_pair word result }
+    ensures some { IsSome result }
+    ensures exact { Unpacks IsPair packed_pair word result }
 {
-    let (low, high) = split(word, 32);
-    Some(Pair { low: low as u32, high: high as u32 })
+    let (low, high) = split(word, HALF_BITS);
+    Some(Pair {
+        low: low as u32,
+        high: high as u32,
+    })
 }

@@ -5,6 +5,8 @@ ghost use Rattle.kt_words.specs.Words.{IsPost, packed_post, post_kind, post_numb
 
 use crate::bits::{joined, split};
 
+const KIND_BITS: u32 = 3;
+
 /// What the post word of a worker says.
 #[derive(Clone, Copy, Debug, PartialEq, Eq)]
 pub enum Post {
@@ -28,14 +30,14 @@ pub fn pack_post(v: &Post) -> u64
     ensures { result ≡ packed_post v.now }
 {
     let (kind, number) = numbers(*v);
-    joined(kind, 3, number)
+    joined(kind, KIND_BITS, number)
 }
 
 /// What a post word says, none where the word is not packed from a post.
 pub fn unpack_post(word: u64) -> Option<Post>
     ensures { Unpacks IsPost packed_post word result }
 {
-    let (kind, rest) = split(word, 3);
+    let (kind, rest) = split(word, KIND_BITS);
     if rest > u64::from(u32::MAX) {
         return None;
     }

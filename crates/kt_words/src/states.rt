@@ -3,9 +3,15 @@ ghost use Rattle.std.specs.Prelude.{◌≡◌, ◌≢◌, ◌<◌, IfSome, IfNon
 ghost use Rattle.kt_words.specs.BitFields.{Unpacks};
 ghost use Rattle.kt_words.specs.Words.{IsStateWord, packed_state, stand_number, worker_number};
 
+use crate::bits::{joined, split};
 use kt_law::Stand;
 
-use crate::bits::{joined, split};
+// The widths of the fields below the frame, from bit 0 on.
+const STAND_BITS: u32 = 3;
+
+const WORKER_BITS: u32 = 3;
+
+const FORK_BITS: u32 = 17;
 
 /// What the state word of a record says. A record without a task has frame 0 and fork 0.
 #[derive(Clone, Copy, Debug, PartialEq, Eq)]
@@ -24,7 +30,12 @@ pub fn pack_state(v: &StateWord) -> u64
     ensures { result ≡ packed_state v.now }
 {
     let (number, worker) = numbers(v.stand);
-    joined(number, 3, joined(worker, 3, joined(u64::from(v.fork), 17, v.frame)))
+    let above = joined(
+        worker,
+        WORKER_BITS,
+        joined(u64::from(v.fork), FORK_BITS, v.frame),
+    );
+    joined(number, STAND_BITS, above)
 }
 
 /// The state that a word says, none where the word is not packed from a state.
@@ -32,13 +43,21 @@ pub fn unpack_state(word: u64) -> Option<StateWord>
     ensures { Unpacks IsStateWord packed_state word result }
 {
     if word == 0 {
-        return Some(StateWord { frame: 0, fork: 0, stand: Stand::Empty });
+        return Some(StateWord {
+            frame: 0,
+            fork: 0,
+            stand: Stand::Empty,
+        });
     }
-    let (number, rest) = split(word, 3);
-    let (worker, rest) = split(rest, 3);
-    let (fork, frame) = split(rest, 17);
+    let (number, rest) = split(word, STAND_BITS);
+    let (worker, rest) = split(rest, WORKER_BITS);
+    let (fork, frame) = split(rest, FORK_BITS);
     let stand = stand_of_task(number, worker as u32)?;
-    Some(StateWord { frame, fork: fork as u32, stand })
+    Some(StateWord {
+        frame,
+        fork: fork as u32,
+        stand,
+    })
 }
 
 /// The number of a stand, and that of its worker.

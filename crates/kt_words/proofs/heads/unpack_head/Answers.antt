@@ -1,5 +1,5 @@
 use Rattle.std.proofs.Common.{arith}
-use Rattle.kt_words.proofs.WordLaws.{head_found, no_head}
+use Rattle.kt_words.proofs.HeadLaws.{head_found, no_head}
 use Rattle.kt_words.proofs.heads.unpack_head.Goals as goal
 
 pub returns-then-ints : goal.returns-then-ints

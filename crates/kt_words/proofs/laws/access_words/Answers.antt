@@ -1,4 +1,4 @@
-use Rattle.kt_words.proofs.WordLaws.{access_words}
+use Rattle.kt_words.proofs.AccessLaws.{access_words}
 use Rattle.kt_words.proofs.laws.access_words.Goals as goal
 
 pub returns : goal.returns

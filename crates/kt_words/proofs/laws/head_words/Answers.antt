@@ -1,4 +1,4 @@
-use Rattle.kt_words.proofs.WordLaws.{head_words}
+use Rattle.kt_words.proofs.HeadLaws.{head_words}
 use Rattle.kt_words.proofs.laws.head_words.Goals as goal
 
 pub returns : goal.returns

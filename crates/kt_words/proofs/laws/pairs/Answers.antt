@@ -1,4 +1,4 @@
-use Rattle.kt_words.proofs.WordLaws.{pairs}
+use Rattle.kt_words.proofs.PairLaws.{pairs}
 use Rattle.kt_words.proofs.laws.pairs.Goals as goal
 
 pub returns : goal.returns

@@ -1,4 +1,4 @@
-use Rattle.kt_words.proofs.WordLaws.{state_words}
+use Rattle.kt_words.proofs.StateLaws.{state_words}
 use Rattle.kt_words.proofs.laws.state_words.Goals as goal
 
 pub returns : goal.returns

@@ -1,4 +1,4 @@
-use Rattle.kt_words.proofs.WordLaws.{zero_is_empty}
+use Rattle.kt_words.proofs.StateLaws.{zero_is_empty}
 use Rattle.kt_words.proofs.laws.zero_is_empty.Goals as goal
 
 pub returns : goal.returns

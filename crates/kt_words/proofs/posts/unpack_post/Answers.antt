@@ -1,5 +1,5 @@
 use Rattle.std.proofs.Common.{arith}
-use Rattle.kt_words.proofs.WordLaws.{post_found, no_post}
+use Rattle.kt_words.proofs.PostLaws.{post_found, no_post}
 use Rattle.kt_words.proofs.posts.unpack_post.Goals as goal
 
 pub returns-then-rest-from : goal.returns-then-rest-from

@@ -1,7 +1,7 @@
 use Rattle.std.proofs.Common.{sym, subst}
 use Rattle.kt_words.specs.BitFields.{Unpacks}
 use Rattle.kt_words.specs.Words.{IsStateWord, packed_state}
-use Rattle.kt_words.proofs.WordLaws.{empty_found, task_found, no_state}
+use Rattle.kt_words.proofs.StateLaws.{empty_found, task_found, no_state}
 use Rattle.kt_words.proofs.states.unpack_state.Goals as goal
 
 pub returns-then-word-eq0 : goal.returns-then-word-eq0
