@@ -1,25 +1,9 @@
 -- What a packing owes, from the fields of its values alone.
-use Rattle.std.proofs.Common.{◌≡◌, ◌≢◌, ℕ, ◌+◌, ◌*◌, ◌/◌, ◌%◌, ◌^◌, ◌<◌, ◌≤◌, List, [], ◌∷◌, length, get_or, set, slice_index, Option, Some, None, IfSome, IfNone, refl, sym, ap, ◌∙◌, subst, arith}
-use Rattle.kt_law.specs.Modes.{op_number}
-use Rattle.kt_law.specs.declared.stands.Stand.{Stand}
-use Rattle.kt_law.specs.declared.stands.Stand.TheVariants as S
-use Rattle.kt_law.specs.declared.operators.Op.{Op}
-use Rattle.kt_law.specs.declared.operators.Op.TheVariants as O
-use Rattle.kt_law.specs.declared.modes.Mode.{Mode}
-use Rattle.kt_law.specs.declared.modes.Mode.TheVariants as M
-use Rattle.kt_law.specs.declared.accesses.Access.{Access}
+use Rattle.std.proofs.Common.{◌≡◌, ℕ, ◌^◌, ◌<◌, Some, None, refl, sym, ap, ◌∙◌, subst}
 use Rattle.kt_words.specs.BitFields.{Fields, AllFit, packed, HasFields, Unpacks}
-use Rattle.kt_words.specs.Words.{stand_number, worker_number, state_fields, IsBlankIfEmpty, IsStateWord, packed_state, head_fields, IsHeadWord, packed_head, pair_fields, IsPair, packed_pair, post_kind, post_number, post_fields, IsPost, packed_post, mode_number, mode_op, access_fields, IsAccess, packed_access}
-use Rattle.kt_words.specs.Places.{Place, IsWithin, place, total_of}
-use Rattle.kt_words.specs.Laws.{IsPacking, ZeroIsEmpty}
-use Rattle.kt_words.specs.declared.layouts.Layout.{Layout}
-use Rattle.kt_words.specs.declared.states.StateWord.{StateWord}
-use Rattle.kt_words.specs.declared.heads.HeadWord.{HeadWord}
-use Rattle.kt_words.specs.declared.pairs.Pair.{Pair}
-use Rattle.kt_words.specs.declared.posts.Post.{Post}
-use Rattle.kt_words.specs.declared.posts.Post.TheVariants as P
+use Rattle.kt_words.specs.Laws.{IsPacking}
 use Rattle.kt_words.proofs.PlaceLaws.{set_is_read, others_stay}
-use Rattle.kt_words.proofs.FieldLaws.{has_fields, packed_again}
+use Rattle.kt_words.proofs.FieldLaws.{has_fields}
 
 -- Values whose fields fit where they are in range, and that are fixed by their fields.
 module _ {V : Type 0} (InRange : V → Type 0) (fields : V → Fields)

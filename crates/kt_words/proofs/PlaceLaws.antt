@@ -1,7 +1,6 @@
 -- Places differ and lie within the table, and a set word changes one place alone.
-use Rattle.std.proofs.Common.{◌≡◌, ◌≢◌, ℕ, ◌<◌, ◌≤◌, List, [], ◌∷◌, length, get_or, set, slice_index, refl, sym, ap, ◌∙◌, arith, get_or-set_same, get_or-set_other}
-use Rattle.kt_words.specs.declared.layouts.Layout.{Layout}
-use Rattle.kt_words.specs.Places.{Shared, seats, tasks_drawn, positions_drawn, stop, Own, request, post, answer, interval, home, Place, shared_word, worker_word, record_word, element_word, version_word, IsWithin, shared_number, own_number, place, total_of}
+use Rattle.std.proofs.Common.{◌≡◌, ◌≢◌, ℕ, ◌<◌, [], ◌∷◌, get_or, refl, sym, ap, ◌∙◌, arith, get_or-set_same, get_or-set_other}
+use Rattle.kt_words.specs.Places.{Shared, seats, tasks_drawn, positions_drawn, stop, Own, request, post, answer, interval, home, shared_word, worker_word, record_word, element_word, version_word, shared_number, own_number, place, total_of}
 use Rattle.kt_words.specs.Laws.{PlacesDiffer, PlacesAreInside, SetIsRead, OthersStay}
 
 -- the word with a number

@@ -1,25 +1,13 @@
 -- State words are a packing, and what is read from one.
-use Rattle.std.proofs.Common.{◌≡◌, ◌≢◌, ℕ, ◌+◌, ◌*◌, ◌/◌, ◌%◌, ◌^◌, ◌<◌, ◌≤◌, List, [], ◌∷◌, length, get_or, set, slice_index, Option, Some, None, IfSome, IfNone, refl, sym, ap, ◌∙◌, subst, arith}
-use Rattle.kt_law.specs.Modes.{op_number}
+use Rattle.std.proofs.Common.{◌≡◌, ◌≢◌, ℕ, ◌/◌, ◌%◌, ◌^◌, ◌<◌, [], ◌∷◌, get_or, Some, None, refl, sym, ap, ◌∙◌, subst, arith}
 use Rattle.kt_law.specs.declared.stands.Stand.{Stand}
 use Rattle.kt_law.specs.declared.stands.Stand.TheVariants as S
-use Rattle.kt_law.specs.declared.operators.Op.{Op}
-use Rattle.kt_law.specs.declared.operators.Op.TheVariants as O
-use Rattle.kt_law.specs.declared.modes.Mode.{Mode}
-use Rattle.kt_law.specs.declared.modes.Mode.TheVariants as M
-use Rattle.kt_law.specs.declared.accesses.Access.{Access}
-use Rattle.kt_words.specs.BitFields.{Fields, AllFit, packed, HasFields, Unpacks}
-use Rattle.kt_words.specs.Words.{stand_number, worker_number, state_fields, IsBlankIfEmpty, IsStateWord, packed_state, head_fields, IsHeadWord, packed_head, pair_fields, IsPair, packed_pair, post_kind, post_number, post_fields, IsPost, packed_post, mode_number, mode_op, access_fields, IsAccess, packed_access}
-use Rattle.kt_words.specs.Places.{Place, IsWithin, place, total_of}
+use Rattle.kt_words.specs.BitFields.{AllFit, packed, HasFields, Unpacks}
+use Rattle.kt_words.specs.Words.{stand_number, worker_number, state_fields, IsBlankIfEmpty, IsStateWord, packed_state}
 use Rattle.kt_words.specs.Laws.{IsPacking, ZeroIsEmpty}
-use Rattle.kt_words.specs.declared.layouts.Layout.{Layout}
 use Rattle.kt_words.specs.declared.states.StateWord.{StateWord}
-use Rattle.kt_words.specs.declared.heads.HeadWord.{HeadWord}
-use Rattle.kt_words.specs.declared.pairs.Pair.{Pair}
-use Rattle.kt_words.specs.declared.posts.Post.{Post}
-use Rattle.kt_words.specs.declared.posts.Post.TheVariants as P
 use Rattle.kt_words.proofs.Packings.{apart, unpacks_some, unpacks_none, packing}
-use Rattle.kt_words.proofs.FieldLaws.{has_fields, packed_again}
+use Rattle.kt_words.proofs.FieldLaws.{packed_again}
 
 abbrev stand_at : ℕ → ℕ → Stand
 stand_at number worker = get_or (S.Empty ∷ S.Unclaimed ∷ S.Given worker ∷ S.Running worker ∷ S.Finished ∷ []) number S.Empty
@@ -41,7 +29,7 @@ stand_number-below (S.Given worker) = omega arith
 stand_number-below (S.Running worker) = omega arith
 stand_number-below S.Finished = omega arith
 
-blank_of_task : (stand : Stand) → stand_number stand ≢ 0 → (frame fork : ℕ) → IsBlankIfEmpty stand frame fork
+blank_of_task : (stand : Stand) → stand ≢ S.Empty → (frame fork : ℕ) → IsBlankIfEmpty stand frame fork
 blank_of_task S.Empty task frame fork = absurd (task refl)
 blank_of_task S.Unclaimed task frame fork = tt
 blank_of_task (S.Given worker) task frame fork = tt
@@ -94,13 +82,10 @@ empty_found word e = unpacks_some IsStateWord state_fields state_fit state_fixed
 pub task_found : (word number rest worker above fork frame : ℕ) (stand : Stand) → word < 2 ^ 64
     → number ≡ word % 2 ^ 3 → rest ≡ word / 2 ^ 3 → worker ≡ rest % 2 ^ 3 → above ≡ rest / 2 ^ 3
     → fork ≡ above % 2 ^ 17 → frame ≡ above / 2 ^ 17
-    → (stand_number stand ≡ number) × (worker_number stand ≡ worker) × (number ≢ 0)
+    → stand_number stand ≡ number → worker_number stand ≡ worker → stand ≢ S.Empty
     → Unpacks IsStateWord packed_state word (Some (record { frame = frame; fork = fork; stand = stand }))
 unfolding packed_state
-task_found word number rest worker above fork frame stand small low high low' high' low'' high'' found =
-    let same_number = found.0 in
-    let same_worker = found.1 in
-    let task : stand_number stand ≢ 0 = (λ e. found.2 (sym same_number ∙ e)) in
+task_found word number rest worker above fork frame stand small low high low' high' low'' high'' same_number same_worker task =
     let range : IsStateWord (record { frame = frame; fork = fork; stand = stand }) = record {
       frame_fits = omega arith;
       fork_fits = omega arith;
@@ -110,11 +95,12 @@ task_found word number rest worker above fork frame stand small low high low' hi
     unpacks_some IsStateWord state_fields state_fit state_fixed word (record { frame = frame; fork = fork; stand = stand }) range (omega arith)
 
 pub no_state : (word number rest worker : ℕ) → word ≢ 0 → number ≡ word % 2 ^ 3 → rest ≡ word / 2 ^ 3 → worker ≡ rest % 2 ^ 3
-    → ((stand : Stand) → stand_number stand ≡ number → worker_number stand ≡ worker → stand ≡ S.Empty)
+    → ((stand : Stand) → stand ≢ S.Empty → stand_number stand ≡ number → worker_number stand ≢ worker)
     → Unpacks IsStateWord packed_state word None
 unfolding packed_state
-no_state word number rest worker task low high low' only_empty =
+no_state word number rest worker other low high low' nowhere =
     unpacks_none IsStateWord state_fields state_fit state_fixed word (λ v h has.
     let same_number : stand_number v.stand ≡ number = sym has.0 ∙ sym low in
     let same_worker : worker_number v.stand ≡ worker = sym has.1.0 ∙ ap (λ n. n % 2 ^ 3) (sym high) ∙ sym low' in
-    task (sym (packed_again word (state_fields v) has) ∙ zero_of_empty v h (only_empty v.stand same_number same_worker)))
+    let task : v.stand ≢ S.Empty = (λ empty. other (sym (packed_again word (state_fields v) has) ∙ zero_of_empty v h empty)) in
+    nowhere v.stand task same_number same_worker)

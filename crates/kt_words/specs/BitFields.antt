@@ -22,6 +22,9 @@ HasFields word (field ∷ fields) = (word % 2 ^ field.0 ≡ field.1) × HasField
 
 -- what is found in a word: the value that was packed to it, and none exactly where no value in range is
 pub record Unpacks {V : Type 0} (InRange : V → Type 0) (pack : V → ℕ) (word : ℕ) (found : Option V) : Type 0 where
+  -- a word that is unpacked is packed from what is found
   pub sound : IfSome found (λ v. InRange v × (pack v ≡ word))
+  -- what was packed is found
   pub complete : (v : V) → InRange v → pack v ≡ word → found ≡ Some v
+  -- nothing is found exactly where nothing was packed
   pub none : IsNone found ↔ ((v : V) → InRange v → pack v ≢ word)

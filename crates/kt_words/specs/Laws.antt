@@ -11,6 +11,7 @@ use Rattle.kt_words.specs.declared.states.StateWord.{StateWord}
 abbrev pub PlacesDiffer : Type 0
 PlacesDiffer = (l : Layout) (p q : Place) → IsWithin l p → IsWithin l q → place l p ≡ place l q → p ≡ q
 
+-- each place is below the total
 abbrev pub PlacesAreInside : Type 0
 PlacesAreInside = (l : Layout) (p : Place) → IsWithin l p → place l p < total_of l
 

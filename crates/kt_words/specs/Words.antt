@@ -1,5 +1,5 @@
--- The fields of each kind of word, and the values that can be packed.
-use Rattle.std.specs.Prelude.{◌≡◌, ℕ, ◌+◌, ◌*◌, ◌^◌, ◌<◌, ◌≤◌, [], ◌∷◌}
+-- The bit fields of each kind of word, and the values whose fields are in range.
+use Rattle.std.specs.Prelude.{◌≡◌, ℕ, ◌^◌, ◌<◌, ◌≤◌, [], ◌∷◌}
 use Rattle.kt_law.specs.Modes.{op_number}
 use Rattle.kt_law.specs.declared.limits.TheConstants.{INTS, ACCESSES}
 use Rattle.kt_law.specs.declared.stands.Stand.{Stand}
@@ -31,7 +31,7 @@ worker_number _ = 0
 abbrev pub state_fields : StateWord → Fields
 state_fields v = (3, stand_number v.stand) ∷ (3, worker_number v.stand) ∷ (17, v.fork) ∷ (41, v.frame) ∷ []
 
--- the word of a record without a task is 0
+-- a record without a task has neither a frame nor a fork number, so its word is 0
 abbrev pub IsBlankIfEmpty : Stand → ℕ → ℕ → Type 0
 IsBlankIfEmpty S.Empty frame fork = (frame ≡ 0) × (fork ≡ 0)
 IsBlankIfEmpty _ frame fork = Unit {0}

@@ -76,8 +76,11 @@ fn numbers(stand: Stand) -> (u64, u64)
 
 /// The stand of a task with these numbers.
 fn stand_of_task(number: u64, worker: u32) -> Option<Stand>
-    ensures found { IfSome result (λ stand. (stand_number stand ≡ number) × (worker_number stand ≡ worker) × (number ≢ 0)) }
-    ensures none { IfNone result ((stand : Stand) → stand_number stand ≡ number → worker_number stand ≡ worker → stand ≡ Stand.Empty) }
+    ensures number { IfSome result (λ stand. stand_number stand ≡ number) }
+    ensures worker { IfSome result (λ stand. worker_number stand ≡ worker) }
+    ensures task { IfSome result (λ stand. stand ≢ Stand.Empty) }
+    ensures none { IfNone result ((stand : Stand) → stand ≢ Stand.Empty
+        → stand_number stand ≡ number → worker_number stand ≢ worker) }
 {
     match number {
         1 if worker == 0 => Some(Stand::Unclaimed),

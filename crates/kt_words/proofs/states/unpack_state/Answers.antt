@@ -15,4 +15,5 @@ returns-in_err-stand c =
 pub returns : goal.returns
 returns c =
     task_found _ _ _ _ _ _ _ _ c.ranges.word.fits c.split-number.ensures.low c.split-number.ensures.high
-    c.split-worker.ensures.low c.split-worker.ensures.high c.split-fork.ensures.low c.split-fork.ensures.high c.in_ok-stand.ensures.found
+    c.split-worker.ensures.low c.split-worker.ensures.high c.split-fork.ensures.low c.split-fork.ensures.high
+    c.in_ok-stand.ensures.number c.in_ok-stand.ensures.worker c.in_ok-stand.ensures.task
