@@ -1,0 +1,9 @@
+//! Which tasks may be given away: a scan goes through the entries of a frame, and says of each unclaimed one whether an
+//! earlier entry that is not finished stands in its way.
+#![tactic(auto)]
+
+mod tables;
+mod verdicts;
+
+pub use tables::Table;
+pub use verdicts::{Seen, Verdict};
