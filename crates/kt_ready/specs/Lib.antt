@@ -1,3 +1,4 @@
 pub mod Verdicts
 pub mod Table
 pub mod Marks
+pub mod Contents

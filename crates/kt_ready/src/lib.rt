@@ -2,8 +2,9 @@
 //! earlier entry that is not finished stands in its way.
 #![tactic(auto)]
 
+mod scans;
 mod tables;
 mod verdicts;
 
-pub use tables::Table;
+pub use scans::Scan;
 pub use verdicts::{Seen, Verdict};
