@@ -12,9 +12,9 @@ use Rattle.kt_law.specs.declared.stands.Stand.{Stand}
 use Rattle.kt_law.specs.declared.stands.Stand.TheVariants as S
 use Rattle.kt_ready.specs.declared.verdicts.Verdict.{Verdict}
 use Rattle.kt_ready.specs.declared.verdicts.Verdict.TheVariants as V
-use Rattle.kt_ready.specs.Table.{IsBelow, IsFirst, any_refused, class_after, class_of, class_with, has_object, is_refused, refuses}
+use Rattle.kt_ready.specs.Table.{IsBelow, IsFirst, VerdictBy, any_refused, class_after, class_of, class_with, has_object, is_refused, refuses}
 use Rattle.kt_ready.specs.Verdicts.{Blocks, ClashOn, Entry, IsLeast, IsVerdict}
-use Rattle.kt_ready.specs.Contents.{Contents, HasFrame, VerdictBy, bars, entry_bars, is_finished}
+use Rattle.kt_ready.specs.Contents.{Contents, HasFrame, bars, entry_bars, is_finished}
 use Rattle.kt_ready.proofs.AgreementLemmas.{refuses-joined}
 
 -- the test of an object, and the fact

@@ -1,11 +1,15 @@
 -- The class of an object: one mode that stands for all that are noted on it, or none where nothing is noted.
-use Rattle.std.specs.Prelude.{ℕ, ◌≤◌, ◌<◌, Bool, true, false, ◌≡◌, min, ◌&&◌, not, nat_le, nat_lt, if◌then◌else◌, List, Option, None, Some, slice_index_or, All, fold}
+use Rattle.std.specs.Prelude.{ℕ, ◌≤◌, ◌<◌, Bool, true, false, ◌≡◌, ◌≢◌, min, ◌&&◌, not, nat_le, nat_lt, if◌then◌else◌, List, Option, None, Some, slice_index_or, All, fold}
 use Rattle.std.specs.List.{list_any}
 use Rattle.kt_law.specs.Accesses.{HasObject}
 use Rattle.kt_law.specs.Modes.{agree_of}
 use Rattle.kt_law.specs.declared.accesses.Access.{Access}
 use Rattle.kt_law.specs.declared.modes.Mode.{Mode}
 use Rattle.kt_law.specs.declared.modes.Mode.TheVariants as M
+use Rattle.kt_law.specs.declared.stands.Stand.TheVariants as S
+use Rattle.kt_ready.specs.declared.verdicts.Verdict.{Verdict}
+use Rattle.kt_ready.specs.declared.verdicts.Verdict.TheVariants as V
+use Rattle.kt_ready.specs.Verdicts.{Entry}
 
 -- the objects of the access are below the limit
 abbrev pub IsBelow : ℕ → Access → Type 0
@@ -54,3 +58,10 @@ abbrev pub lesser_of : Option ℕ → Option ℕ → Option ℕ
 lesser_of None second = second
 lesser_of (Some first) None = Some first
 lesser_of (Some first) (Some second) = Some (min first second)
+
+-- the verdict on an entry by the classes
+abbrev pub VerdictBy : List (Option Mode) → Entry → Verdict → Type 0
+VerdictBy classes entry (V.Taken found) = (entry.stand ≢ S.Unclaimed) × (found ≡ entry.stand)
+VerdictBy classes entry (V.Blocked object) = (entry.stand ≡ S.Unclaimed) × IsFirst (any_refused classes entry.accesses) (Some object)
+VerdictBy classes entry V.Ready = (entry.stand ≡ S.Unclaimed) × IsFirst (any_refused classes entry.accesses) None
+VerdictBy classes entry _ = ⊥

@@ -1,8 +1,8 @@
 // The scan of the entries of frames.
 ghost use Rattle.std.specs.Prelude.{◌≡◌, ◌≢◌, ◌<◌, ◌∷◌, ◌++◌, [], All, IfOk, length, List};
 ghost use Rattle.kt_law.specs.declared.stands.Stand.TheVariants as S;
-ghost use Rattle.kt_ready.specs.Table.{IsBelow};
-ghost use Rattle.kt_ready.specs.Contents.{EndsReady, HasFrame, HasRoomOf, VerdictBy, is_finished};
+ghost use Rattle.kt_ready.specs.Table.{IsBelow, VerdictBy};
+ghost use Rattle.kt_ready.specs.Contents.{EndsReady, HasFrame, HasRoomOf, is_finished};
 ghost use Rattle.kt_ready.specs.Verdicts.{Entry, IsVerdict};
 
 use std::alloc::Global;

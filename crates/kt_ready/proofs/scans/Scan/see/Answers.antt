@@ -1,6 +1,7 @@
 -- The verdict by the classes is that over all pairs, and the classes follow the entry.
 use Rattle.std.proofs.Common.{◌≡◌, length, ap, subst, refl, sym, arith}
-use Rattle.kt_ready.specs.Contents.{Contents, HasFrame, VerdictBy}
+use Rattle.kt_ready.specs.Contents.{Contents, HasFrame}
+use Rattle.kt_ready.specs.Table.{VerdictBy}
 use Rattle.kt_ready.specs.contracts.scans.Scan.{the_view}
 use Rattle.kt_ready.specs.Verdicts.{Entry}
 use Rattle.kt_ready.proofs.FrameLemmas.{frame-finished, frame-noted, verdict-by_classes}
