@@ -73,11 +73,11 @@ agree-back a b agrees = agree-same a b a agrees ∙ agree-self a b agrees
 pub agree-symmetric : (a b : Mode) → agree_of a b ≡ agree_of b a
 agree-symmetric a b =
     elim (cases_Bool (agree_of a b)) [
-        inl agrees ↦ agrees ∙ sym (agree-back a b agrees)
+      | inl agrees ↦ agrees ∙ sym (agree-back a b agrees)
       | inr apart ↦ elim (cases_Bool (agree_of b a)) [
-            inl agrees ↦ absurd (false≢true (sym apart ∙ agree-back b a agrees))
-          | inr other ↦ apart ∙ sym other
-        ]
+        | inl agrees ↦ absurd (false≢true (sym apart ∙ agree-back b a agrees))
+        | inr other ↦ apart ∙ sym other
+      ]
     ]
 
 or-self : (x : Bool) → (x || x) ≡ x
@@ -88,9 +88,9 @@ or-self false = refl
 one-refuses : (class noted mode : Mode) → agree_of class noted ≡ false → (not (agree_of class mode) || not (agree_of mode noted)) ≡ true
 one-refuses class noted mode apart =
     elim (cases_Bool (agree_of class mode)) [
-        inl agrees ↦
-            let other : agree_of mode noted ≡ false = agree-same class mode noted agrees ∙ apart in
-            or_right (not (agree_of class mode)) (not (agree_of mode noted)) (not_from_false (agree_of mode noted) other)
+      | inl agrees ↦
+          let other : agree_of mode noted ≡ false = agree-same class mode noted agrees ∙ apart in
+          or_right (not (agree_of class mode)) (not (agree_of mode noted)) (not_from_false (agree_of mode noted) other)
       | inr refused ↦ or_left (not (agree_of class mode)) (not (agree_of mode noted)) (not_from_false (agree_of class mode) refused)
     ]
 
@@ -99,8 +99,8 @@ pub refuses-joined : (class : Option Mode) (noted mode : Mode) → refuses (Some
 refuses-joined None noted mode = ap not (agree-symmetric noted mode)
 refuses-joined (Some class) noted mode =
     elim (cases_Bool (agree_of class noted)) [
-        inl agrees ↦
-            let same : agree_of mode noted ≡ agree_of class mode = agree-symmetric mode noted ∙ agree-same class noted mode agrees in
-            rw (agrees, same) (sym (or-self (not (agree_of class mode))))
+      | inl agrees ↦
+          let same : agree_of mode noted ≡ agree_of class mode = agree-symmetric mode noted ∙ agree-same class noted mode agrees in
+          rw (agrees, same) (sym (or-self (not (agree_of class mode))))
       | inr apart ↦ rw apart (sym (one-refuses class noted mode apart))
     ]

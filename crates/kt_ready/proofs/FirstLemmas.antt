@@ -20,7 +20,7 @@ first-either p q (Some m) None first second =
     (or_left (p m) (q m) first.0, λ k h. or_from (p k) (q k) (first.1 k h) (second k))
 first-either p q (Some m) (Some n) first second =
     elim (cases_lt m n) [
-        inl below ↦ let e : min m n ≡ m = omega arith in rw e (first-left p q m n (omega arith) first second)
+      | inl below ↦ let e : min m n ≡ m = omega arith in rw e (first-left p q m n (omega arith) first second)
       | inr above ↦ let e : min m n ≡ n = omega arith in rw e (first-right p q m n above first second)
     ]
 

@@ -64,14 +64,14 @@ refused-from_blocks : (scan : Contents) (frame : List Entry) (accesses : List Ac
 refused-from_blocks scan frame accesses object has_frame limits (k, entry, hk, atk, (unfinished, (i, mine, hi, ati, (j, theirs, hj, atj, clash)))) =
     let within : object < scan.objects = below scan.objects accesses i mine object limits hi ati clash.in_first in
     let barred : list_any (bars object mine.mode) entry.accesses ≡ true =
-        list_any-from_Any (bars object mine.mode) entry.accesses (j, theirs, hj, atj, bars-from object mine theirs clash) in
+    list_any-from_Any (bars object mine.mode) entry.accesses (j, theirs, hj, atj, bars-from object mine theirs clash) in
     let by_entry : entry_bars object mine.mode entry ≡ true =
-        and_from (not (is_finished entry.stand)) (list_any (bars object mine.mode) entry.accesses) (unfinished-from entry.stand unfinished) barred in
+    and_from (not (is_finished entry.stand)) (list_any (bars object mine.mode) entry.accesses) (unfinished-from entry.stand unfinished) barred in
     let by_frame : list_any (entry_bars object mine.mode) frame ≡ true =
-        list_any-from_Any (entry_bars object mine.mode) frame (k, entry, hk, atk, by_entry) in
+    list_any-from_Any (entry_bars object mine.mode) frame (k, entry, hk, atk, by_entry) in
     let refused : refuses (class_of scan.classes object) mine.mode ≡ true = has_frame.told object mine.mode within ∙ by_frame in
     let here : is_refused scan.classes object mine ≡ true =
-        and_from (has_object mine object) (refuses (class_of scan.classes object) mine.mode) (has_object-from mine object clash.in_first) refused in
+    and_from (has_object mine object) (refuses (class_of scan.classes object) mine.mode) (has_object-from mine object clash.in_first) refused in
     list_any-from_Any (is_refused scan.classes object) accesses (i, mine, hi, ati, here)
 
 any-weaker : {X : Type 0} (P Q : X → Type 0) → ((x : X) → P x → Q x) → (xs : List X) → Any P xs → Any Q xs
@@ -81,15 +81,16 @@ any-weaker P Q weaker xs (k, x, h, at, p) = (k, x, h, at, weaker x p)
 clash-from_entry : (object : ℕ) (mine : Access) (entry : Entry) → has_object mine object ≡ true → entry_bars object mine.mode entry ≡ true → (entry.stand ≢ S.Finished) × Any (ClashOn object mine) entry.accesses
 clash-from_entry object mine entry has test =
     let parts : (not (is_finished entry.stand) ≡ true) × (list_any (bars object mine.mode) entry.accesses ≡ true) =
-        and_parts (not (is_finished entry.stand)) (list_any (bars object mine.mode) entry.accesses) test in
-    (unfinished-by_test entry.stand parts.0,
-     any-weaker (λ theirs. bars object mine.mode theirs ≡ true) (ClashOn object mine) (λ theirs bar. clash-from_bars object mine theirs has bar) entry.accesses (Any-from_list_any (bars object mine.mode) entry.accesses parts.1))
+    and_parts (not (is_finished entry.stand)) (list_any (bars object mine.mode) entry.accesses) test in (
+      unfinished-by_test entry.stand parts.0,
+      any-weaker (λ theirs. bars object mine.mode theirs ≡ true) (ClashOn object mine) (λ theirs bar. clash-from_bars object mine theirs has bar) entry.accesses (Any-from_list_any (bars object mine.mode) entry.accesses parts.1),
+    )
 
 -- an access that is refused is blocked
 blocks-from_access : (scan : Contents) (frame : List Entry) (accesses : List Access) (object : ℕ) → HasFrame scan frame → All (IsBelow scan.objects) accesses → Any (λ access. is_refused scan.classes object access ≡ true) accesses → Blocks frame accesses object
 blocks-from_access scan frame accesses object has_frame limits (i, mine, hi, ati, test) =
     let parts : (has_object mine object ≡ true) × (refuses (class_of scan.classes object) mine.mode ≡ true) =
-        and_parts (has_object mine object) (refuses (class_of scan.classes object) mine.mode) test in
+    and_parts (has_object mine object) (refuses (class_of scan.classes object) mine.mode) test in
     let within : object < scan.objects = below scan.objects accesses i mine object limits hi ati (object-from_test mine object parts.0) in
     let barred : list_any (entry_bars object mine.mode) frame ≡ true = sym (has_frame.told object mine.mode within) ∙ parts.1 in
     any-weaker (λ entry. entry_bars object mine.mode entry ≡ true) (λ entry. (entry.stand ≢ S.Finished) × Any (λ access. Any (ClashOn object access) entry.accesses) accesses)
@@ -107,12 +108,13 @@ free-from_blocks scan frame accesses object has_frame limits free =
 
 -- the first that is refused is the least that is blocked
 least-from_first : (scan : Contents) (frame : List Entry) (accesses : List Access) (object : ℕ) → HasFrame scan frame → All (IsBelow scan.objects) accesses → IsFirst (any_refused scan.classes accesses) (Some object) → IsLeast (Blocks frame accesses) object
-least-from_first scan frame accesses object has_frame limits first =
-    (blocks-from_refused scan frame accesses object has_frame limits first.0,
-     λ lower blocks. elim (cases_lt lower object) [
-         inl less ↦ absurd (free-from_blocks scan frame accesses lower has_frame limits (first.1 lower less) blocks)
-       | inr le ↦ le
-     ])
+least-from_first scan frame accesses object has_frame limits first = (
+  blocks-from_refused scan frame accesses object has_frame limits first.0,
+  λ lower blocks. elim (cases_lt lower object) [
+    | inl less ↦ absurd (free-from_blocks scan frame accesses lower has_frame limits (first.1 lower less) blocks)
+    | inr le ↦ le
+  ],
+)
 
 -- the verdict by the classes is the verdict over all pairs
 pub verdict-by_classes : (scan : Contents) (frame : List Entry) (entry : Entry) (verdict : Verdict) → HasFrame scan frame → All (IsBelow scan.objects) entry.accesses → VerdictBy scan.classes entry verdict → IsVerdict frame entry verdict
@@ -136,7 +138,7 @@ or-assoc false y z = refl
 refuses-with : (object : ℕ) (class : Option Mode) (access : Access) (mode : Mode) → refuses (class_with object class access) mode ≡ (refuses class mode || bars object mode access)
 refuses-with object class access mode =
     elim (cases_Bool (has_object access object)) [
-        inl has ↦ rw has (refuses-joined class access.mode mode)
+      | inl has ↦ rw has (refuses-joined class access.mode mode)
       | inr lacks ↦ rw lacks (sym (or-false (refuses class mode)))
     ]
 
@@ -164,9 +166,9 @@ pub frame-noted : (scan new : Contents) (frame : List Entry) (entry : Entry) →
 frame-noted scan new frame entry has_frame same classes unfinished =
     frame-more scan new frame entry has_frame same
     (λ object mode within.
-        ap (λ class. refuses class mode) (classes object within)
-        ∙ refuses-after object (class_of scan.classes object) entry.accesses mode
-        ∙ rw unfinished refl)
+    ap (λ class. refuses class mode) (classes object within)
+    ∙ refuses-after object (class_of scan.classes object) entry.accesses mode
+    ∙ rw unfinished refl)
 
 -- those of a finished one are not
 pub frame-finished : (scan new : Contents) (frame : List Entry) (entry : Entry) → HasFrame scan frame → new.objects ≡ scan.objects → new.classes ≡ scan.classes → is_finished entry.stand ≡ true → HasFrame new (frame ++ entry ∷ [])

@@ -64,7 +64,7 @@ any_clash-at : (a : Access) (bs : List Access) → any_clash a bs ≡ true → (
 any_clash-at a [] test = absurd (false≢true test)
 any_clash-at a (b ∷ bs) test =
     elim (or_cases (clash_of a b) (any_clash a bs) test) [
-        inl here ↦ (max a.lo b.lo, any-here (ClashOn (max a.lo b.lo) a) b bs (clash-at a b here))
+      | inl here ↦ (max a.lo b.lo, any-here (ClashOn (max a.lo b.lo) a) b bs (clash-at a b here))
       | inr there ↦ let found : (object : ℕ) × Any (ClashOn object a) bs = any_clash-at a bs there in (found.0, any-there (ClashOn found.0 a) b bs found.1)
     ]
 
@@ -76,7 +76,7 @@ clash_between-at : (mine bs : List Access) → clash_between mine bs ≡ true �
 clash_between-at [] bs test = absurd (false≢true test)
 clash_between-at (a ∷ mine) bs test =
     elim (or_cases (any_clash a bs) (clash_between mine bs) test) [
-        inl here ↦ let found : (object : ℕ) × Any (ClashOn object a) bs = any_clash-at a bs here in (found.0, any-here (λ x. Any (ClashOn found.0 x) bs) a mine found.1)
+      | inl here ↦ let found : (object : ℕ) × Any (ClashOn object a) bs = any_clash-at a bs here in (found.0, any-here (λ x. Any (ClashOn found.0 x) bs) a mine found.1)
       | inr there ↦ let found : (object : ℕ) × ClashesOn mine bs object = clash_between-at mine bs there in (found.0, any-there (λ x. Any (ClashOn found.0 x) bs) a mine found.1)
     ]
 
@@ -104,13 +104,13 @@ none-from_free frame accesses free k d h unfinished =
     let earlier : Entry = get_or frame k d in
     false_from_ne_true (clash_between accesses earlier.accesses)
     (λ test.
-        let found : (object : ℕ) × ClashesOn accesses earlier.accesses object = clash_between-at accesses earlier.accesses test in
-        free found.0 (k, earlier, h, get_or_default frame k earlier d h, (unfinished, found.1)))
+    let found : (object : ℕ) × ClashesOn accesses earlier.accesses object = clash_between-at accesses earlier.accesses test in
+    free found.0 (k, earlier, h, get_or_default frame k earlier d h, (unfinished, found.1)))
 
 free-from_none : (frame : List Entry) (entry : Entry) → ClashesWithNone frame entry → (object : ℕ) → ¬ (Blocks frame entry.accesses object)
 free-from_none frame entry none object = λ (k, earlier, h, at, (unfinished, clash)).
     let apart : earlier.stand ≢ S.Finished → clash_between entry.accesses earlier.accesses ≡ false =
-        subst (λ (e : Entry). e.stand ≢ S.Finished → clash_between entry.accesses e.accesses ≡ false) at (none k earlier h) in
+    subst (λ (e : Entry). e.stand ≢ S.Finished → clash_between entry.accesses e.accesses ≡ false) at (none k earlier h) in
     false≢true (sym (apart unfinished) ∙ clash_between-by object entry.accesses earlier.accesses clash)
 
 pub ready-clashes_with_none : ReadyClashesWithNone

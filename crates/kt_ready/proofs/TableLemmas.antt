@@ -13,7 +13,7 @@ is_refused-mode classes object access agrees = and_right (has_object access obje
 has_object-empty : (access : Access) (n : ℕ) → access.hi ≤ access.lo → has_object access n ≡ false
 has_object-empty access n empty =
     elim (cases_lt n access.lo) [
-        inl below ↦ and_left (leb access.lo n) (ltb n access.hi) (lt-leb access.lo n below)
+      | inl below ↦ and_left (leb access.lo n) (ltb n access.hi) (lt-leb access.lo n below)
       | inr above ↦ and_right (leb access.lo n) (ltb n access.hi) (le-ltb n access.hi (omega arith))
     ]
 
@@ -24,7 +24,7 @@ has_object-none access hi n one other = has_object-empty (record access { hi = h
 pub has_object-all : (access : Access) (hi n : ℕ) → access.hi ≤ hi → (access.lo ≤ access.hi → hi ≤ access.hi) → (access.hi < access.lo → hi ≡ access.lo) → has_object (record access { hi = hi }) n ≡ has_object access n
 has_object-all access hi n past within none =
     elim (cases_lt access.hi access.lo) [
-        inl crossed ↦ let e : hi ≡ access.lo = none crossed in has_object-none access hi n (omega arith) (omega arith)
+      | inl crossed ↦ let e : hi ≡ access.lo = none crossed in has_object-none access hi n (omega arith) (omega arith)
       | inr straight ↦ let e : hi ≡ access.hi = omega (arith, within straight) in ap (λ h. has_object (record access { hi = h }) n) e
     ]
 

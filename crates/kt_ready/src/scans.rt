@@ -5,13 +5,11 @@ ghost use Rattle.kt_ready.specs.Table.{IsBelow, VerdictBy};
 ghost use Rattle.kt_ready.specs.Contents.{EndsReady, HasFrame, HasRoomOf, is_finished};
 ghost use Rattle.kt_ready.specs.Verdicts.{Entry, IsVerdict};
 
-use std::alloc::Global;
-use std::marker::Model;
-
-use kt_law::{Access, NoMemory, Stand};
-
 use crate::tables::Table;
 use crate::verdicts::{Seen, Verdict};
+use kt_law::{Access, NoMemory, Stand};
+use std::alloc::Global;
+use std::marker::Model;
 
 /// Goes through entries in order and notes each. An entry's verdict is against the entries noted since its frame began.
 #[derive(Drop)]

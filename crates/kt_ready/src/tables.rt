@@ -1,13 +1,21 @@
 // What is under way on each object.
 ghost use Rattle.std.specs.Prelude.{◌≡◌, ℕ, ◌<◌, All, IfOk, None, length, replicate, slice_set, Some};
 ghost use Rattle.kt_ready.specs.Table.{
-    IsBelow, IsFirst, any_refused, class_after, class_of, class_with, is_refused, joined, lesser_of, refuses,
+  IsBelow,
+  IsFirst,
+  any_refused,
+  class_after,
+  class_of,
+  class_with,
+  is_refused,
+  joined,
+  lesser_of,
+  refuses,
 };
 
+use kt_law::{Access, Mode, NoMemory, agree};
 use std::alloc::Global;
 use std::marker::Model;
-
-use kt_law::{Access, Mode, NoMemory, agree};
 
 /// The class of each object in one frame: a mode that agrees with just those that all modes noted on the object agree
 /// with. A frame begins without a look at the objects, because each mark has the number of its frame.

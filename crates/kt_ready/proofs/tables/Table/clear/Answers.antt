@@ -9,6 +9,6 @@ pub returns : goal.returns
 returns c =
     let old = c.self.inside.marks.items in
     elim c.if-self.branch [
-        then-self w ↦ rw (w.self-inside-is, with_items_is c.self.inside.marks w.unmark.new.marks (omega arith)) (classes-cleared c.self.inside.frame 1 old w.unmark.new.marks c.args.self.now c.self.view_is (omega arith) (λ k d h. omega (arith, w.unmark.ensures k d h)))
+      | then-self w ↦ rw (w.self-inside-is, with_items_is c.self.inside.marks w.unmark.new.marks (omega arith)) (classes-cleared c.self.inside.frame 1 old w.unmark.new.marks c.args.self.now c.self.view_is (omega arith) (λ k d h. omega (arith, w.unmark.ensures k d h)))
       | else-self w ↦ rw w.self-inside-is (classes-cleared c.self.inside.frame _ old old c.args.self.now c.self.view_is (omega arith) (λ k d h. omega (arith, c.self.invariant.past k d h)))
     ]
