@@ -11,7 +11,8 @@ use kt_law::{Access, NoMemory, Stand};
 use std::alloc::Global;
 use std::marker::Model;
 
-/// Goes through entries in order and notes each. An entry's verdict is against the entries noted since its frame began.
+/// Goes through the entries of frames in order and notes each, with a verdict against the entries noted since its frame
+/// began. To see an entry costs no more than its accesses have objects, however many entries were noted.
 #[derive(Drop)]
 pub struct Scan {
     table: Table,
@@ -72,8 +73,10 @@ impl Scan {
         requires objects { All (IsBelow self.old.objects) accesses.now }
         requires stand { stand ≢ S.Empty }
 
-        ensures verdict { (frame : List Entry) → HasFrame self.old frame → IsVerdict frame (record { stand = stand; accesses = accesses.now }) result }
-        ensures frame { (frame : List Entry) → HasFrame self.old frame → HasFrame self.new (frame ++ (record { stand = stand; accesses = accesses.now }) ∷ []) }
+        ensures verdict { (frame : List Entry) → HasFrame self.old frame
+            → IsVerdict frame (record { stand = stand; accesses = accesses.now }) result }
+        ensures frame { (frame : List Entry) → HasFrame self.old frame
+            → HasFrame self.new (frame ++ (record { stand = stand; accesses = accesses.now }) ∷ []) }
         ensures notes { self.new.notes ≡ self.old.notes ++ (record { at = at; stand = stand; verdict = result }) ∷ [] }
         ensures room { HasRoomOf self.old self.new }
     {
@@ -88,7 +91,8 @@ impl Scan {
     /// Says of the last entry, which was ready, that it was found otherwise when it was to be claimed.
     pub fn lost(&mut self, stand: Stand)
         requires { EndsReady self.old.notes }
-        ensures notes { (earlier : List Seen) (last : Seen) → self.old.notes ≡ earlier ++ last ∷ [] → self.new.notes ≡ earlier ++ (record last { verdict = Verdict.Lost stand }) ∷ [] }
+        ensures notes { (earlier : List Seen) (last : Seen) → self.old.notes ≡ earlier ++ last ∷ []
+            → self.new.notes ≡ earlier ++ (record last { verdict = Verdict.Lost stand }) ∷ [] }
         ensures frame { (frame : List Entry) → HasFrame self.old frame → HasFrame self.new frame }
         ensures room { HasRoomOf self.old self.new }
     {

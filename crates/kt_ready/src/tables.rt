@@ -63,7 +63,7 @@ impl Table {
         ensures { self.new ≡ replicate (length self.old) None }
     {
         if self.frame == u64::MAX {
-            unmark(&mut self.marks);
+            self.marks.fill(UNMARKED);
             self.frame = 0;
         }
         self.frame += 1;
@@ -85,7 +85,8 @@ impl Table {
     pub fn note(&mut self, accesses: &[Access])
         requires { All (IsBelow (length self.old)) accesses.now }
         ensures len { length self.new ≡ length self.old }
-        ensures classes { (object : ℕ) → object < length self.old → class_of self.new object ≡ class_after object (class_of self.old object) accesses.now }
+        ensures classes { (object : ℕ) → object < length self.old
+            → class_of self.new object ≡ class_after object (class_of self.old object) accesses.now }
     {
         for access in accesses {
             self.note_access(access);
@@ -108,10 +109,7 @@ impl Table {
         requires { object < length self.now }
         ensures { result ≡ refuses (class_of self.now object) mode }
     {
-        match self.class(object) {
-            Some(class) => !agree(class, mode),
-            None => false,
-        }
+        self.class(object).is_some_and(|class| !agree(class, mode))
     }
 
     fn class(&self, object: u32) -> Option<Mode>
@@ -119,17 +117,14 @@ impl Table {
         ensures { result ≡ class_of self.now object }
     {
         let mark = self.marks[object as usize];
-        if mark.frame == self.frame {
-            Some(mark.mode)
-        } else {
-            None
-        }
+        (mark.frame == self.frame).then_some(mark.mode)
     }
 
     fn note_access(&mut self, access: &Access)
         requires { IsBelow (length self.old) access.now }
         ensures len { length self.new ≡ length self.old }
-        ensures classes { (object : ℕ) → object < length self.old → class_of self.new object ≡ class_with object (class_of self.old object) access.now }
+        ensures classes { (object : ℕ) → object < length self.old
+            → class_of self.new object ≡ class_with object (class_of self.old object) access.now }
     {
         for object in access.lo..access.hi {
             self.note_mode(object, access.mode);
@@ -165,13 +160,5 @@ fn lesser(first: Option<u32>, second: Option<u32>) -> Option<u32>
     match (first, second) {
         (Some(first), Some(second)) => Some(first.min(second)),
         (found, None) | (None, found) => found,
-    }
-}
-
-fn unmark(marks: &mut [Mark])
-    ensures { All (λ mark. mark.frame ≡ 0) marks.new }
-{
-    for mark in marks.iter_mut() {
-        *mark = UNMARKED;
     }
 }
