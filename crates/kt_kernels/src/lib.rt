@@ -1,0 +1,9 @@
+//! The kernels of tasks that work on whole tiles and rows: two products of tiles, a stencil and a running sum.
+//! Each gives exactly the values of its plain definition, for every shape; it works in vectors of eight numbers,
+//! and element by element where fewer than eight are left.
+#![tactic(auto)]
+
+mod products;
+mod semirings;
+
+pub use products::{minplus, mul};
