@@ -1,4 +1,6 @@
-pub mod Rows
+pub mod Cells
+pub mod Neighbours
+pub mod Scanned
 pub mod Stored
 pub mod Sums
 pub mod Vectors

@@ -1,25 +1,22 @@
 -- What a list holds after a vector or a row was stored in it.
-use Rattle.std.proofs.Common.{◌≡◌, ℕ, ◌+◌, ◌-◌, ◌<◌, ◌≤◌, ◌⊎◌, inl, inr, List, length, take, get_or, map, refl, ap, sym, subst, ◌∙◌, arith}
-use Rattle.std.specs.List.{range_with_len}
+use Rattle.std.proofs.Common.{◌≡◌, ℕ, ◌+◌, ◌-◌, ◌<◌, ◌≤◌, inl, inr, List, length, take, get_or, ap, sym, ◌∙◌, arith}
 use Rattle.std.proofs.lemmas.Bool.{cases_lt}
 use Rattle.std.proofs.lemmas.List.{get_or-take, get_or_append_left, get_or-append_right, length-take-le}
-use Rattle.std.proofs.lemmas.List.FromFn.{length-map-range_with_len, get_or-map-range_with_len}
 use Rattle.std.proofs.lemmas.Simd.{get_or-put_chunk_below, get_or-put_chunk_at}
 use borrow.Rule.Slice.PartMut.{put_mid, post_of}
 use lib.Lanes.{put_chunk}
 
--- a vector of the n columns from c on, behind columns that hold f
-pub stored_columns : (f : ℕ → ℕ) (out ys : List ℕ) (c n : ℕ) → ys ≡ map f (range_with_len c n) → c + n ≤ length out → ((j : ℕ) → j < c → get_or out j 0 ≡ f j) → (j : ℕ) → j < c + n → get_or (put_chunk c out ys) j 0 ≡ f j
-stored_columns f out ys c n is room before j lt =
-    let long : length ys ≡ n = ap length is ∙ length-map-range_with_len f c n in
-    elim (cases_lt j c) [
-      inl below ↦ get_or-put_chunk_below c out ys j 0 below ∙ before j below
+-- a vector of the n elements from a on, behind elements that hold f
+pub stored_vector : (f : ℕ → ℕ) (out ys : List ℕ) (a n : ℕ) → length ys ≡ n → ((i : ℕ) → i < n → get_or ys i 0 ≡ f (a + i)) → a + n ≤ length out → ((e : ℕ) → e < a → get_or out e 0 ≡ f e) → (e : ℕ) → e < a + n → get_or (put_chunk a out ys) e 0 ≡ f e
+stored_vector f out ys a n long here room before e lt =
+    elim (cases_lt e a) [
+      inl below ↦ get_or-put_chunk_below a out ys e 0 below ∙ before e below
     | inr above ↦
-        let place : c + (j - c) ≡ j = omega arith in
-        ap (λ e. get_or (put_chunk c out ys) e 0) (sym place)
-        ∙ get_or-put_chunk_at c out ys (j - c) 0 (omega arith) (omega arith)
-        ∙ ap (λ l. get_or l (j - c) 0) is
-        ∙ get_or-map-range_with_len f c n (j - c) j 0 (omega arith) place
+        let place : a + (e - a) ≡ e = omega arith in
+        ap (λ k. get_or (put_chunk a out ys) k 0) (sym place)
+        ∙ get_or-put_chunk_at a out ys (e - a) 0 (omega arith) (omega arith)
+        ∙ here (e - a) (omega arith)
+        ∙ ap f place
     ]
 
 -- a row of q elements from a on, behind elements that hold f

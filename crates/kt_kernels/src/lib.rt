@@ -4,6 +4,8 @@
 #![tactic(auto)]
 
 mod products;
+mod rows;
 mod semirings;
 
 pub use products::{minplus, mul};
+pub use rows::{scan, stencil};

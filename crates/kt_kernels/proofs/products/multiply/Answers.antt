@@ -2,7 +2,7 @@ use Rattle.std.proofs.Common.{◌≡◌, ℕ, ◌+◌, ◌*◌, ◌-◌, ◌<◌
 use Rattle.std.proofs.lemmas.List.FromFn.{fill_by_all, length-map-range_with_len}
 use Rattle.std.proofs.lemmas.Nat.{row_fits}
 use Rattle.kt_kernels.specs.Products.{element_of}
-use Rattle.kt_kernels.proofs.Rows.{cell, length-row_at, row_at, row_cells}
+use Rattle.kt_kernels.proofs.Cells.{cell, length-row_at, row_at, row_cells}
 use Rattle.kt_kernels.proofs.Stored.{stored_row}
 use Rattle.kt_kernels.proofs.products.multiply.Goals as goal
 

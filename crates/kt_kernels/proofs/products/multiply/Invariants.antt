@@ -1,5 +1,5 @@
 use Rattle.std.proofs.Common.{◌≡◌, ℕ, ◌<◌, ◌*◌, get_or}
-use Rattle.kt_kernels.proofs.Rows.{cell}
+use Rattle.kt_kernels.proofs.Cells.{cell}
 use Rattle.kt_kernels.proofs.products.multiply.Given as goal
 
 abbrev pub invariant-loop-i : goal.invariant-loop-i
