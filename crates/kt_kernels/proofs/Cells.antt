@@ -35,9 +35,9 @@ row_cells plus times first a b p q i w new wide room is j lt =
     ∙ get_or-map-range_with_len (element_of plus times first row b w) 0 w j j 0 (omega arith) (omega arith)
     ∙ ap (folded plus first term) (length-row_at i p a room)
     ∙ folded_same plus first term (λ k. times (get_or a (e / q * p + k) 0) (get_or b (k * q + e % q) 0)) p
-      (λ k below.
-          let left : get_or row k 0 ≡ get_or a (e / q * p + k) 0 =
-              get_or-row_at i p a k below ∙ ap (λ r. get_or a (r * p + k) 0) (sym (div-mul-add i q j lt)) in
-          let right : get_or b (k * w + j) 0 ≡ get_or b (k * q + e % q) 0 =
-              ap (λ v. get_or b (k * v + j) 0) wide ∙ ap (λ r. get_or b (k * q + r) 0) (sym (mod-mul-add i q j lt)) in
-          ap (λ x. times x (get_or b (k * w + j) 0)) left ∙ ap (times (get_or a (e / q * p + k) 0)) right)
+    (λ k below.
+    let left : get_or row k 0 ≡ get_or a (e / q * p + k) 0 =
+    get_or-row_at i p a k below ∙ ap (λ r. get_or a (r * p + k) 0) (sym (div-mul-add i q j lt)) in
+    let right : get_or b (k * w + j) 0 ≡ get_or b (k * q + e % q) 0 =
+    ap (λ v. get_or b (k * v + j) 0) wide ∙ ap (λ r. get_or b (k * q + r) 0) (sym (mod-mul-add i q j lt)) in
+    ap (λ x. times x (get_or b (k * w + j) 0)) left ∙ ap (times (get_or a (e / q * p + k) 0)) right)

@@ -23,14 +23,14 @@ behind_lane row right at b room is j lt =
     let here = chunk at 8 row in
     let long : length here ≡ 8 = length-chunk at 8 row room in
     elim (cases_lt (j + 1) 8) [
-      inl within ↦
-        let place : at + (j + 1) ≡ at + j + 1 = omega arith in
-        get_or_append_left here (b ∷ []) 0 (j + 1) (omega arith) ∙ get_or-chunk at 8 row (j + 1) 0 within
-        ∙ ap (λ k. get_or row k 0) place ∙ get_or_default row (at + j + 1) 0 right (omega arith)
-    | inr last ↦
-        let end : length here ≡ j + 1 = omega arith in
-        let place : at + 7 ≡ at + j = omega arith in
-        get_or_push here b 0 (j + 1) end ∙ is ∙ ap (element_behind row right) place
+      | inl within ↦
+          let place : at + (j + 1) ≡ at + j + 1 = omega arith in
+          get_or_append_left here (b ∷ []) 0 (j + 1) (omega arith) ∙ get_or-chunk at 8 row (j + 1) 0 within
+          ∙ ap (λ k. get_or row k 0) place ∙ get_or_default row (at + j + 1) 0 right (omega arith)
+      | inr last ↦
+          let end : length here ≡ j + 1 = omega arith in
+          let place : at + 7 ≡ at + j = omega arith in
+          get_or_push here b 0 (j + 1) end ∙ is ∙ ap (element_behind row right) place
     ]
 
 -- lane j of a vector of the elements from `at` on

@@ -66,10 +66,10 @@ chunk_is_map base c n xs room =
     let long : length (chunk (base + c) n xs) ≡ n = length-chunk (base + c) n xs room in
     ext_get_or 0 (chunk (base + c) n xs) (map f (range_with_len c n)) (long ∙ sym (length-map-range_with_len f c n))
     (λ i lt.
-        let within : i < n = omega arith in
-        let place : base + c + i ≡ base + (c + i) = omega arith in
-        get_or-chunk (base + c) n xs i 0 within ∙ ap (λ e. get_or xs e 0) place
-        ∙ sym (get_or-map-range_with_len f c n i (c + i) 0 within refl))
+    let within : i < n = omega arith in
+    let place : base + c + i ≡ base + (c + i) = omega arith in
+    get_or-chunk (base + c) n xs i 0 within ∙ ap (λ e. get_or xs e 0) place
+    ∙ sym (get_or-map-range_with_len f c n i (c + i) 0 within refl))
 
 -- a step in each of n columns from c on
 pub zip2_columns : (h : ℕ → ℕ → ℕ) (sum_of : ℕ → ℕ) (sums : List ℕ) (base c n : ℕ) (xs : List ℕ) → base + c + n ≤ length xs → sums ≡ map sum_of (range_with_len c n) → zip2 h sums (chunk (base + c) n xs) ≡ map (λ j. h (sum_of j) (get_or xs (base + j) 0)) (range_with_len c n)

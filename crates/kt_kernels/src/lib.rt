@@ -6,6 +6,8 @@
 mod products;
 mod rows;
 mod semirings;
+#[cfg(test)]
+mod tests;
 
 pub use products::{minplus, mul};
 pub use rows::{scan, stencil};

@@ -4,10 +4,9 @@ ghost use Rattle.std.specs.List.{range_with_len};
 ghost use Rattle.kt_law.specs.PlainKernels.{mul_of, minplus_of};
 ghost use Rattle.kt_kernels.specs.Products.{element_of, product_of};
 
+use crate::semirings::{LANES, Semiring, Tropical, Wrapping};
 use kt_law::LENGTH;
 use std::simd::prelude::*;
-
-use crate::semirings::{LANES, Semiring, Tropical, Wrapping};
 
 /// What `row` makes with column `column` of the tile `b`, which has `width` columns.
 fn element<S: Semiring>(row: &[u64], b: &[u64], width: usize, column: usize) -> u64

@@ -2,9 +2,8 @@
 ghost use Rattle.std.specs.Prelude.{◌≡◌, ℕ, ◌+◌, ◌*◌, ◌%◌, ◌^◌, ◌<◌, ◌≤◌, ◌++◌, ◌∷◌, [], length, slice_index};
 ghost use Rattle.kt_law.specs.PlainKernels.{element_before, element_behind, scan_of, stencil_of};
 
-use std::simd::prelude::*;
-
 use crate::semirings::LANES;
+use std::simd::prelude::*;
 
 /// The element before element `at` of a row that has `left` before it.
 fn before(left: u64, row: &[u64], at: usize) -> u64
@@ -43,11 +42,18 @@ pub fn stencil(left: u64, row: &[u64], right: u64, out: &mut [u64])
     for block in 0..whole {
         let at = block * LANES;
         let here = u64x8::from_slice(&row[at..]);
-        weighted(before(left, row, at), here, behind(row, right, at + LANES - 1)).copy_to_slice(&mut out[at..]);
+        weighted(
+            before(left, row, at),
+            here,
+            behind(row, right, at + LANES - 1),
+        )
+        .copy_to_slice(&mut out[at..]);
     }
     for at in whole * LANES..row.len() {
         let twice = row[at].wrapping_add(row[at]);
-        out[at] = before(left, row, at).wrapping_add(twice).wrapping_add(behind(row, right, at));
+        out[at] = before(left, row, at)
+            .wrapping_add(twice)
+            .wrapping_add(behind(row, right, at));
     }
 }
 
