@@ -6,6 +6,7 @@ use std::test::Fail;
 
 const MAX: u64 = u64::MAX;
 
+#[derive(Drop)]
 struct Tiles<'a> {
     shape: (usize, usize, usize),
     a: &'a [u64],
@@ -134,6 +135,7 @@ fn tiles_are_multiplied(rt: HostRuntime) -> Result<(), Fail> {
     Ok(())
 }
 
+#[derive(Drop)]
 struct Row<'a> {
     left: u64,
     row: &'a [u64],
