@@ -25,7 +25,8 @@ fn behind(row: &[u64], right: u64, at: usize) -> u64
 #[inline(always)]
 fn weighted(before: u64, here: u64x8, behind: u64) -> u64x8
     ensures lanes { length result ≡ LANES }
-    ensures values { (j : ℕ) → j < LANES → slice_index result j ≡ (slice_index (before ∷ here) j + 2 * slice_index here j + slice_index (here ++ behind ∷ []) (j + 1)) % 2 ^ 64 }
+    ensures values { (j : ℕ) → j < LANES → slice_index result j
+        ≡ (slice_index (before ∷ here) j + 2 * slice_index here j + slice_index (here ++ behind ∷ []) (j + 1)) % 2 ^ 64 }
 {
     let befores = u64x8::splat(before).shuffle(here, [0, 8, 9, 10, 11, 12, 13, 14]);
     let behinds = here.shuffle(u64x8::splat(behind), [1, 2, 3, 4, 5, 6, 7, 8]);
@@ -41,22 +42,18 @@ pub fn stencil(left: u64, row: &[u64], right: u64, out: &mut [u64])
     let whole = row.len() / LANES;
     for block in 0..whole {
         let at = block * LANES;
-        let here = u64x8::from_slice(&row[at..]);
-        weighted(
-            before(left, row, at),
-            here,
-            behind(row, right, at + LANES - 1),
-        )
-        .copy_to_slice(&mut out[at..]);
+        let first = before(left, row, at);
+        let last = behind(row, right, at + LANES - 1);
+        weighted(first, u64x8::from_slice(&row[at..]), last).copy_to_slice(&mut out[at..]);
     }
     for at in whole * LANES..row.len() {
-        let twice = row[at].wrapping_add(row[at]);
-        out[at] = before(left, row, at)
-            .wrapping_add(twice)
-            .wrapping_add(behind(row, right, at));
+        let neighbours = before(left, row, at).wrapping_add(behind(row, right, at));
+        out[at] = neighbours.wrapping_add(row[at].wrapping_mul(2));
     }
 }
 
+// One sum follows on the other, and a vector of two, as the processor has them, takes longer to sum within itself
+// than two additions take: so this is no loop over vectors.
 /// Writes over each element of `row` the sum of `start` and of the elements up to it, modulo 2^64.
 pub fn scan(start: u64, row: &mut [u64])
     ensures { row.new ≡ scan_of start row.old }

@@ -15,7 +15,7 @@ loop-block-preserved c e lt =
     let last : at + 8 - 1 ≡ at + 7 = omega arith in
     stored_vector (weighted_at left row right) c.loop-block.out c.weighted.result at 8 c.weighted.ensures.lanes
     (λ j within. c.weighted.ensures.values j within
-    ∙ weighted_lane left row right at c.before-in-loop-block.result c.behind.result room c.before-in-loop-block.ensures (c.behind.ensures ∙ ap (element_behind row right) last) j within)
+    ∙ weighted_lane left row right at c.before-first.result c.behind-last.result room c.before-first.ensures (c.behind-last.ensures ∙ ap (element_behind row right) last) j within)
     (omega arith) c.loop-block.invariant e (omega arith)
 
 pub returns : goal.returns
