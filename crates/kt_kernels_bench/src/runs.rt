@@ -30,7 +30,8 @@ impl Tiles {
         for i in 0..ROOM {
             let seed = i as u64;
             tiles.a[i] = seed.wrapping_mul(0x9E37_79B9_7F4A_7C15);
-            tiles.b[i] = seed.wrapping_add(77).wrapping_mul(0xC2B2_AE3D_27D4_EB4F) >> (i as u32 % 5 * 8);
+            tiles.b[i] = seed.wrapping_add(77).wrapping_mul(0xC2B2_AE3D_27D4_EB4F)
+                >> (i as u32 % 5 * 8);
         }
         tiles
     }
@@ -54,12 +55,11 @@ impl Tiles {
         match kernel {
             Kernel::Mul => self.multiply(size.min(SIDE)),
             Kernel::Minplus => self.find_least(size.min(SIDE)),
-            Kernel::Stencil => {
-                let length = size.min(ROOM);
-                stencil(self.b[0], &self.a[..length], self.b[1], &mut self.out[..length]);
-                self.a[0] ^= self.out[1];
+            Kernel::Stencil => self.weight(size.min(ROOM)),
+            Kernel::Scan => {
+                let row = &mut self.a[..];
+                scan(1, &mut row[..size.min(ROOM)]);
             }
-            Kernel::Scan => scan(1, &mut self.a[..size.min(ROOM)]),
         }
     }
 
@@ -67,7 +67,15 @@ impl Tiles {
         requires { side ≤ SIDE }
     {
         let room = side * side;
-        mul(side, side, side, &self.a[..room], &self.b[..room], &mut self.out[..room]);
+        let out = &mut self.out[..];
+        mul(
+            side,
+            side,
+            side,
+            &self.a[..room],
+            &self.b[..room],
+            &mut out[..room],
+        );
         self.a[0] ^= self.out[1];
     }
 
@@ -75,7 +83,23 @@ impl Tiles {
         requires { side ≤ SIDE }
     {
         let room = side * side;
-        minplus(side, side, side, &self.a[..room], &self.b[..room], &mut self.out[..room]);
+        let out = &mut self.out[..];
+        minplus(
+            side,
+            side,
+            side,
+            &self.a[..room],
+            &self.b[..room],
+            &mut out[..room],
+        );
+        self.a[0] ^= self.out[1];
+    }
+
+    fn weight(&mut self, length: usize)
+        requires { length ≤ ROOM }
+    {
+        let out = &mut self.out[..];
+        stencil(self.b[0], &self.a[..length], self.b[1], &mut out[..length]);
         self.a[0] ^= self.out[1];
     }
 
