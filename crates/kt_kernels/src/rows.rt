@@ -39,12 +39,13 @@ pub fn stencil(left: u64, row: &[u64], right: u64, out: &mut [u64])
     requires { length out.old ≡ length row.now }
     ensures { out.new ≡ stencil_of left row.now right }
 {
-    let whole = row.len() / LANES;
+    // Vectors that have an element of the row behind them.
+    let whole = row.len().saturating_sub(1) / LANES;
     for block in 0..whole {
         let at = block * LANES;
         let first = before(left, row, at);
-        let last = behind(row, right, at + LANES - 1);
-        weighted(first, u64x8::from_slice(&row[at..]), last).copy_to_slice(&mut out[at..]);
+        let here = u64x8::from_slice(&row[at..]);
+        weighted(first, here, row[at + LANES]).copy_to_slice(&mut out[at..]);
     }
     for at in whole * LANES..row.len() {
         let neighbours = before(left, row, at).wrapping_add(behind(row, right, at));

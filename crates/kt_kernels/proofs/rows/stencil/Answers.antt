@@ -1,4 +1,5 @@
-use Rattle.std.proofs.Common.{◌≡◌, ℕ, ◌+◌, ◌*◌, ◌-◌, ◌<◌, ◌≤◌, length, ap, ◌∙◌, arith}
+use Rattle.std.proofs.Common.{◌≡◌, ℕ, ◌+◌, ◌*◌, ◌-◌, ◌<◌, ◌≤◌, length, get_or, ap, ◌∙◌, arith}
+use Rattle.std.proofs.lemmas.List.{get_or_default}
 use Rattle.std.proofs.lemmas.List.FromFn.{fill_by_all}
 use Rattle.kt_law.specs.PlainKernels.{element_behind}
 use Rattle.kt_kernels.proofs.Neighbours.{weighted_at, weighted_lane}
@@ -12,10 +13,12 @@ loop-block-preserved c e lt =
     let right = c.args.right in
     let at = c.loop-block.block * 8 in
     let room : at + 8 ≤ length row = omega arith in
-    let last : at + 8 - 1 ≡ at + 7 = omega arith in
+    let next : at + 8 ≡ at + 7 + 1 = omega arith in
+    let behind : get_or row (at + 8) 0 ≡ element_behind row right (at + 7) =
+    get_or_default row (at + 8) 0 right (omega arith) ∙ ap (λ k. get_or row k right) next in
     stored_vector (weighted_at left row right) c.loop-block.out c.weighted.result at 8 c.weighted.ensures.lanes
     (λ j within. c.weighted.ensures.values j within
-    ∙ weighted_lane left row right at c.before-first.result c.behind-last.result room c.before-first.ensures (c.behind-last.ensures ∙ ap (element_behind row right) last) j within)
+    ∙ weighted_lane left row right at c.before-first.result (get_or row (at + 8) 0) room c.before-first.ensures behind j within)
     (omega arith) c.loop-block.invariant e (omega arith)
 
 pub returns : goal.returns
