@@ -10,6 +10,11 @@ use lib.Lanes.{chunk}
 abbrev pub weighted_at : ℕ → List ℕ → ℕ → ℕ → ℕ
 weighted_at left row right i = (element_before left row i + 2 * get_or row i 0 + element_behind row right i) % 2 ^ 64
 
+-- what a loop over vectors keeps that has come to element `at`
+pub record AreWeighted (left : ℕ) (row : List ℕ) (right at : ℕ) (previous out : List ℕ) : Type 0 where
+  pub before : get_or previous 7 0 ≡ element_before left row at
+  pub written : (e : ℕ) → e < at → get_or out e 0 ≡ weighted_at left row right e
+
 before_lane : (left : ℕ) (row : List ℕ) (at b : ℕ) → b ≡ element_before left row at → (j : ℕ) → j < 8 → get_or (b ∷ chunk at 8 row) j 0 ≡ element_before left row (at + j)
 before_lane left row at b is zero lt =
     let place : at ≡ at + zero = omega arith in
@@ -42,3 +47,9 @@ weighted_lane left row right at before behind room before_is behind_is j lt =
     ap (λ z. (a + 2 * x + z) % 2 ^ 64) (behind_lane row right at behind room behind_is j lt)
     ∙ ap (λ y. (a + 2 * y + element_behind row right (at + j)) % 2 ^ 64) (get_or-chunk at 8 row j 0 lt)
     ∙ ap (λ y. (y + 2 * get_or row (at + j) 0 + element_behind row right (at + j)) % 2 ^ 64) (before_lane left row at before before_is j lt)
+
+-- the last lane of that vector stands before the next one
+pub last_lane : (left : ℕ) (row : List ℕ) (at next : ℕ) → next ≡ at + 8 → get_or (chunk at 8 row) 7 0 ≡ element_before left row next
+last_lane left row at next is =
+    let place : suc (at + 7) ≡ next = omega arith in
+    get_or-chunk at 8 row 7 0 (omega arith) ∙ ap (element_before left row) place

@@ -4,7 +4,7 @@ use Rattle.std.specs.List.{range_with_len}
 use Rattle.std.proofs.lemmas.Bool.Decides.{nat_tests}
 use Rattle.std.proofs.lemmas.List.{ext_get_or}
 use Rattle.std.proofs.lemmas.List.FromFn.{length-map-range_with_len, get_or-map-range_with_len}
-use Rattle.std.proofs.lemmas.Simd.{length-chunk, get_or-chunk, zip2-map, zip2_splat, zip2_splat_left, length-zip2, map-map, tops_compared}
+use Rattle.std.proofs.lemmas.Simd.{length-chunk, get_or-chunk, zip2-map, zip2_splat, zip2_splat_left, map-map, tops_compared}
 use Rattle.std.proofs.lemmas.List.{length-map}
 use lib.Lanes.{zip2, chunk, sel_l, top}
 
@@ -77,9 +77,3 @@ zip2_columns h sum_of sums base c n xs room is =
     ap (λ ss. zip2 h ss (chunk (base + c) n xs)) is
     ∙ ap (λ ys. zip2 h (map sum_of (range_with_len c n)) ys) (chunk_is_map base c n xs room)
     ∙ zip2-map h sum_of (λ j. get_or xs (base + j) 0) (range_with_len c n)
-
-pub length-three_sums : (f : ℕ → ℕ → ℕ) (xs ys zs : List ℕ) (n : ℕ) → length xs ≡ n → length ys ≡ n → length zs ≡ n → length (zip2 f (zip2 f xs (zip2 f ys ys)) zs) ≡ n
-length-three_sums f xs ys zs n x_long y_long z_long =
-    let twice : length (zip2 f ys ys) ≡ n = length-zip2 f ys ys refl ∙ y_long in
-    let two : length (zip2 f xs (zip2 f ys ys)) ≡ n = length-zip2 f xs (zip2 f ys ys) (x_long ∙ sym twice) ∙ x_long in
-    length-zip2 f (zip2 f xs (zip2 f ys ys)) zs (two ∙ sym z_long) ∙ two

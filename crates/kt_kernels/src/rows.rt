@@ -21,14 +21,15 @@ fn behind(row: &[u64], right: u64, at: usize) -> u64
     row.get(at + 1).copied().unwrap_or(right)
 }
 
-/// Each of eight neighbours twice, with the one before it and the one behind it.
+/// Each of eight elements of a row twice, with the one before it and the one behind it. The last of `previous` and
+/// `behind` are the neighbours of the eight.
 #[inline(always)]
-fn weighted(before: u64, here: u64x8, behind: u64) -> u64x8
+fn weighted(previous: u64x8, here: u64x8, behind: u64) -> u64x8
     ensures lanes { length result ≡ LANES }
     ensures values { (j : ℕ) → j < LANES → slice_index result j
-        ≡ (slice_index (before ∷ here) j + 2 * slice_index here j + slice_index (here ++ behind ∷ []) (j + 1)) % 2 ^ 64 }
+        ≡ (slice_index (slice_index previous 7 ∷ here) j + 2 * slice_index here j + slice_index (here ++ behind ∷ []) (j + 1)) % 2 ^ 64 }
 {
-    let befores = u64x8::splat(before).shuffle(here, [0, 8, 9, 10, 11, 12, 13, 14]);
+    let befores = previous.shuffle(here, [7, 8, 9, 10, 11, 12, 13, 14]);
     let behinds = here.shuffle(u64x8::splat(behind), [1, 2, 3, 4, 5, 6, 7, 8]);
     befores + (here + here) + behinds
 }
@@ -41,11 +42,12 @@ pub fn stencil(left: u64, row: &[u64], right: u64, out: &mut [u64])
 {
     // Vectors that have an element of the row behind them.
     let whole = row.len().saturating_sub(1) / LANES;
+    let mut previous = u64x8::splat(left);
     for block in 0..whole {
         let at = block * LANES;
-        let first = before(left, row, at);
         let here = u64x8::from_slice(&row[at..]);
-        weighted(first, here, row[at + LANES]).copy_to_slice(&mut out[at..]);
+        weighted(previous, here, row[at + LANES]).copy_to_slice(&mut out[at..]);
+        previous = here;
     }
     for at in whole * LANES..row.len() {
         let neighbours = before(left, row, at).wrapping_add(behind(row, right, at));
