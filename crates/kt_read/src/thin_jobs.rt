@@ -1,5 +1,5 @@
 // Thin jobs.
-ghost use Rattle.std.specs.Prelude.{◌<◌, length, IfOk, IsErrOf};
+ghost use Rattle.std.specs.Prelude.{◌<◌, ◌≤◌, length, IfOk, IsErrOf};
 ghost use Rattle.kt_read.specs.ThinJobs.{IsNoThinJob, IsOnlyThinJob, IsThinJob};
 ghost use Rattle.kt_read.specs.TokenLists.{AreToData, HasNoData};
 
@@ -19,6 +19,7 @@ pub fn read_thin(alloc: Global, job: &[u8]) -> Result<(Program, usize), Thin>
     requires { length job.now < u32.MAX }
     ensures ok { IfOk result (λ read. IsThinJob job.now read.0 read.1) }
     ensures only { IfOk result (λ read. IsOnlyThinJob job.now read.0 read.1) }
+    ensures within { IfOk result (λ read. read.1 ≤ length job.now) }
     ensures not_built { IsErrOf result Thin.NotBuilt → IsNoThinJob job.now }
 {
     let (toks, from) = toks_to_data(alloc, job)?;
@@ -31,6 +32,7 @@ pub fn read_thin(alloc: Global, job: &[u8]) -> Result<(Program, usize), Thin>
 fn toks_to_data(alloc: Global, job: &[u8]) -> Result<(Vec<Tok>, usize), Thin>
     requires { length job.now < u32.MAX }
     ensures ok { IfOk result (λ lexed. AreToData job.now lexed.0.items lexed.1) }
+    ensures within { IfOk result (λ lexed. lexed.1 ≤ length job.now) }
     ensures not_built { IsErrOf result Thin.NotBuilt → HasNoData job.now }
 {
     let mut lexer = Lexer::new(job);

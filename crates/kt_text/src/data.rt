@@ -28,6 +28,7 @@ pub fn read_data(alloc: Global, job: &[u8], from: usize, wanted: u32) -> Result<
     requires inside { from ≤ length job.now }
     requires short { length job.now < u32.MAX }
     ensures read { IfOk result (λ read. numbers job.now from wanted ≡ Ok read.items) }
+    ensures count { IfOk result (λ read. length read.items ≡ wanted) }
     ensures refused { IfErr result (λ error. error ≢ DataError.NoMemory → numbers job.now from wanted ≡ Err error) }
 {
     let mut read = Vec::new(alloc);
