@@ -3,6 +3,8 @@
 
 mod exits;
 mod replies;
+#[cfg(test)]
+mod tests;
 mod thin;
 mod thin_names;
 mod thin_run;
@@ -18,7 +20,9 @@ use std::{env, io};
 fn words_of(rt: &HostRuntime) -> Result<Vec<String>, u8> {
     let all = match env::args(rt) {
         Ok(all) => all,
-        Err(error) if error.kind() == io::ErrorKind::OutOfMemory => return Err(Exit::NoMemory.code()),
+        Err(error) if error.kind() == io::ErrorKind::OutOfMemory => return Err(
+            Exit::NoMemory.code(),
+        ),
         Err(_) => return Err(USAGE),
     };
     let mut words = Vec::new(rt.alloc());

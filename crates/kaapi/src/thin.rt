@@ -60,7 +60,12 @@ pub fn run_thin(alloc: Global, job: &[u8]) -> Result<Option<Finished>, NoMemory>
 }
 
 // The numbers of the data; none where they are not as many as wanted, or not numbers.
-fn input_of(alloc: Global, job: &[u8], from: usize, wanted: u32) -> Result<Option<Vec<u64>>, NoMemory>
+fn input_of(
+    alloc: Global,
+    job: &[u8],
+    from: usize,
+    wanted: u32,
+) -> Result<Option<Vec<u64>>, NoMemory>
     requires short { length job.now < u32.MAX }
     requires within { from ≤ length job.now }
     ensures some { IfOk result (λ read. IfSome read (λ input. numbers job.now from wanted ≡ Ok input.items)) }
@@ -100,9 +105,7 @@ fn forks_are_few(mains: &[Main]) -> bool
 fn objects_are_short(families: &[Family]) -> bool
     ensures { result ≡ list_all width_fits families.now }
 {
-    families
-        .iter()
-        .all(|family| 1 <= family.elements && family.elements <= THIN_WIDTH)
+    families.iter().all(|family| 1 <= family.elements && family.elements <= THIN_WIDTH)
 }
 
 // The elements of all objects before the run.

@@ -135,7 +135,10 @@ fn fork_known(program: &Program, mains: &[Main]) -> bool
 fn forks_are_known(program: &Program, main: &Main) -> bool
     ensures { result ≡ main_keeps program.now main.now }
 {
-    main.body.as_slice().iter().all(|stmt| fork_is_known(program, stmt))
+    main.body
+        .as_slice()
+        .iter()
+        .all(|stmt| fork_is_known(program, stmt))
 }
 
 fn fork_is_known(program: &Program, stmt: &Stmt) -> bool

@@ -17,7 +17,12 @@ const NOT_BUILT: &[u8] = b"not built\n";
 
 /// Answers the job that the source gives, as the words ask. The answer is whole before the first byte of it is written.
 /// Where the words are not the one word `seq`, the source is left alone.
-pub fn top_plain<S: Source, K: Sink>(alloc: Global, words: &[String], source: &mut S, sink: &mut K) -> Exit
+pub fn top_plain<S: Source, K: Sink>(
+    alloc: Global,
+    words: &[String],
+    source: &mut S,
+    sink: &mut K,
+) -> Exit
     ensures answers { ForJob (S.left source.old) (λ job. EndsWithAnswer (map string_bytes words.now) job
         (over S.left S.faults source.old source.new) (over K.written K.faults sink.old sink.new) result) }
     ensures unread { is_seq (map string_bytes words.now) ≡ false → source.new ≡ source.old }
