@@ -2,6 +2,7 @@ pub mod Cases
 pub mod Digits
 pub mod Fits
 pub mod GapSteps
+pub mod GapTexts
 pub mod ItemLists
 pub mod ItemSteps
 pub mod PlaceSteps

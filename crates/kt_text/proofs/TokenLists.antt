@@ -1,5 +1,5 @@
 -- Tokens one after another.
-use Rattle.std.proofs.Common.{◌≡◌, ◌≢◌, ℕ, suc, ◌+◌, ◌<◌, ◌≤◌, false, List, [], ◌∷◌, length, drop, refl, ap, ◌∙◌, arith, Ok}
+use Rattle.std.proofs.Common.{◌≡◌, ◌≢◌, ℕ, suc, ◌+◌, ◌<◌, ◌≤◌, false, List, [], ◌∷◌, ◌++◌, length, drop, refl, ap, sym, subst, ◌∙◌, arith, Ok}
 use Rattle.std.specs.Prelude.{All}
 use Rattle.std.proofs.Math.Seq.{drop-length}
 use Rattle.kt_text.specs.declared.tokens.Token.{Token}
@@ -42,3 +42,8 @@ end_stays text at token h e is =
     let stop : token.stop ≡ length text = omega (arith, b.ordered, b.within) in
     let place : token.place ≡ place_of text (length text) = b.placed ∙ ap (λ i. place_of text i) start in
     ap (λ i. next_token text i) stop ∙ next_token-length text ∙ ap (λ t. Ok t) (is_end token (length text) (place_of text (length text)) is place start stop)
+
+pub tokens_go_on : (text : List ℕ) (at middle stop : ℕ) (tokens more : List Token) →
+    Lexes text at tokens middle → Lexes text middle more stop → Lexes text at (tokens ++ more) stop
+tokens_go_on text at middle stop [] more same after = subst (λ i. Lexes text i more stop) (sym same) after
+tokens_go_on text at middle stop (token ∷ tokens) more lexes after = (lexes.0, tokens_go_on text token.stop middle stop tokens more lexes.1 after)

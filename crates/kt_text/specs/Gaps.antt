@@ -1,5 +1,6 @@
 -- What may stand between tokens: blanks, and comments from `#` to the next line feed or the end.
-use Rattle.std.specs.Prelude.{ℕ, ◌+◌, Bool, true, false, not, ◌||◌, ◌==◌, if◌then◌else◌, List, [], ◌∷◌, drop}
+use Rattle.std.specs.Prelude.{◌≡◌, ℕ, ◌+◌, Bool, true, false, not, ◌||◌, ◌==◌, if◌then◌else◌, List, [], ◌∷◌, ◌++◌, drop}
+use Rattle.std.specs.List.{list_all}
 use Rattle.std.specs.Str.{byte}
 use Rattle.kt_text.specs.Bytes.{is_blank, is_line_feed}
 
@@ -20,3 +21,17 @@ gap in_comment (b ∷ bs) = if is_gap in_comment b then gap (goes_on in_comment 
 -- where the next token begins
 abbrev pub start_of : List ℕ → ℕ → ℕ
 start_of text at = at + gap false (drop at text)
+
+abbrev pub IsOneLine : List ℕ → Type 0
+IsOneLine bytes = list_all (λ b. not (is_line_feed b)) bytes ≡ true
+
+abbrev pub BeginsNoGap : List ℕ → Type 0
+BeginsNoGap [] = Unit {0}
+BeginsNoGap (b ∷ bytes) = is_gap false b ≡ false
+
+-- the text is blanks and comments and then `rest`, which begins with neither
+pub data Skips : List ℕ → List ℕ → Type 0 where
+  nothing : (rest : List ℕ) → BeginsNoGap rest → Skips rest rest
+  blank : (b : ℕ) (text rest : List ℕ) → is_blank b ≡ true → Skips text rest → Skips (b ∷ text) rest
+  comment : (body text rest : List ℕ) → IsOneLine body → Skips text rest → Skips (byte "#" ∷ (body ++ 10 ∷ text)) rest
+  last_comment : (body : List ℕ) → IsOneLine body → Skips (byte "#" ∷ body) []

@@ -1,7 +1,8 @@
 -- Statements of the laws of tokens.
-use Rattle.std.specs.Prelude.{◌≡◌, ◌≢◌, ℕ, ◌+◌, ◌<◌, ◌≤◌, List, length, slice_index, Ok, All}
+use Rattle.std.specs.Prelude.{◌≡◌, ◌≢◌, ℕ, ◌+◌, ◌<◌, ◌≤◌, List, ◌++◌, length, drop, slice_index, Ok, All}
 use Rattle.kt_text.specs.declared.tokens.Token.{Token}
 use Rattle.kt_text.specs.declared.tokens.TokenKind.TheVariants as T
+use Rattle.kt_text.specs.Gaps.{Skips, start_of}
 use Rattle.kt_text.specs.Places.{place_behind, place_of}
 use Rattle.kt_text.specs.Tokens.{Lexes, next_token}
 
@@ -27,3 +28,11 @@ EndStays = (text : List ℕ) (at : ℕ) (token : Token) →
 abbrev pub TokensAreFew : Type 0
 TokensAreFew = (text : List ℕ) (at stop : ℕ) (tokens : List Token) →
     at ≤ length text → Lexes text at tokens stop → All (λ (token : Token). token.kind ≢ T.End) tokens → at + length tokens ≤ stop
+
+-- between `at` and the next token stand blanks and comments and nothing else
+abbrev pub GapsAreSkipped : Type 0
+GapsAreSkipped = (text : List ℕ) (at : ℕ) → Skips (drop at text) (drop (start_of text at) text)
+
+abbrev pub TokensGoOn : Type 0
+TokensGoOn = (text : List ℕ) (at middle stop : ℕ) (tokens more : List Token) →
+    Lexes text at tokens middle → Lexes text middle more stop → Lexes text at (tokens ++ more) stop

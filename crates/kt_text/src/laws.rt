@@ -1,9 +1,14 @@
 //! Laws of the tokens of a text. The functions do nothing; their contracts are the laws.
-ghost use Rattle.kt_text.specs.Laws.{EndStays, PlacesGoOn, TokensAreBehind, TokensAreFew};
+ghost use Rattle.kt_text.specs.Laws.{EndStays, GapsAreSkipped, PlacesGoOn, TokensAreBehind, TokensAreFew, TokensGoOn};
 
 /// The place of a text's next byte follows from that of the byte before it.
 pub fn places_go_on()
     ensures { PlacesGoOn }
+{}
+
+/// Between a place and the next token stand blanks and comments and nothing else.
+pub fn gaps_are_skipped()
+    ensures { GapsAreSkipped }
 {}
 
 /// A token lies behind the place from which it was looked for, and within the text.
@@ -19,4 +24,9 @@ pub fn end_stays()
 /// Tokens other than the end are at most as many as the bytes over which they stand.
 pub fn tokens_are_few()
     ensures { TokensAreFew }
+{}
+
+/// Tokens that come behind others go on with them.
+pub fn tokens_go_on()
+    ensures { TokensGoOn }
 {}

@@ -98,9 +98,11 @@ fn tokens_follow_one_another(rt: HostRuntime) {
 #[test]
 fn laws_are_called() {
     laws::places_go_on();
+    laws::gaps_are_skipped();
     laws::tokens_are_behind();
     laws::end_stays();
     laws::tokens_are_few();
+    laws::tokens_go_on();
 }
 
 /// What the words of this line ask for.
