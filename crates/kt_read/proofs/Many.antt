@@ -1,5 +1,5 @@
 -- Parts one after another.
-use Rattle.std.proofs.Common.{◌≡◌, ℕ, zero, suc, ◌<◌, ◌≤◌, Bool, true, false, cond, List, [], ◌∷◌, ◌++◌, length, Option, Some, None, Err, refl, ap, sym, subst, ◌∙◌, ◌-◌, append_assoc, arith}
+use Rattle.std.proofs.Common.{◌≡◌, ℕ, zero, suc, ◌<◌, ◌≤◌, Bool, true, false, List, [], ◌∷◌, ◌++◌, length, Option, Some, None, Err, refl, ap, sym, subst, ◌∙◌, ◌-◌, append_assoc, arith}
 use Rattle.std.proofs.lemmas.List.{append-nil}
 use Rattle.kt_read.specs.declared.cursors.Thin.{Thin}
 use Rattle.kt_read.specs.declared.cursors.Thin.TheVariants as H
@@ -133,7 +133,7 @@ loop_goes_on Reads first one ag front x ts us total b e so_far =
     let n : ℕ = length ts - 1 in
     let same : length ts ≡ suc n = omega arith in
     let one_step : many_at first one (length ts) ts ≡ (many_at first one n us >>= λ xs. Some (x ∷ xs.0, xs.1)) =
-        ap (λ k. many_at first one k ts) same ∙ many_step first one n ts (x, us) b e in
+    ap (λ k. many_at first one k ts) same ∙ many_step first one n ts (x, us) b e in
     let fewer : many_at first one n us ≡ many_at first one (length us) us = enough Reads first one ag n (length us) us (omega arith) (omega arith) in
     ap (λ read. with_front (front ++ x ∷ []) read) (sym fewer) ∙ sym (regroup front x (many_at first one n us))
     ∙ ap (λ read. with_front front read) (sym one_step) ∙ so_far

@@ -1,22 +1,12 @@
 -- What the descent reads of each part is what the grammar derives.
-use Rattle.std.proofs.Common.{◌≡◌, ℕ, suc, ◌<◌, ◌≤◌, Bool, true, false, cond, List, [], ◌∷◌, length, Option, Some, None, codes, refl, ap, sym, subst, ◌∙◌, arith}
-use Rattle.std.specs.Str.{bytes_eq}
+use Rattle.std.proofs.Common.{◌≡◌, ℕ, ◌<◌, ◌≤◌, Bool, true, false, cond, List, [], ◌∷◌, length, Option, Some, None, codes, refl, ap, sym, subst, ◌∙◌, arith}
 use Rattle.std.proofs.lemmas.Slice.Eq.{bytes_eq-Decides}
 use denote.Enum.Bare.{same_true}
 use Rattle.kt_law.specs.declared.places.Place.{Place}
 use Rattle.kt_law.specs.declared.operators.BinOp.TheVariants.{Add}
-use Rattle.kt_law.specs.declared.modes.Mode.TheVariants.{X}
-use Rattle.kt_prog.specs.declared.programs.Arg.{Arg}
-use Rattle.kt_prog.specs.declared.programs.ArgWhat.TheVariants.{Value}
-use Rattle.kt_prog.specs.declared.programs.Expr.{Expr, Num, Var, Elem, Bin}
+use Rattle.kt_prog.specs.declared.programs.Expr.{Expr, Num, Bin}
 use Rattle.kt_prog.specs.declared.programs.Family.{Family}
-use Rattle.kt_prog.specs.declared.programs.Main.{Main}
-use Rattle.kt_prog.specs.declared.programs.Param.{Param}
-use Rattle.kt_prog.specs.declared.programs.Program.{Program}
-use Rattle.kt_prog.specs.declared.programs.Sort.TheVariants.{One}
 use Rattle.kt_prog.specs.declared.programs.Stmt.{Stmt}
-use Rattle.kt_prog.specs.declared.programs.Task.{Task}
-use Rattle.kt_prog.specs.declared.programs.What.{Store, Fork}
 use Rattle.kt_read.specs.contracts.tokens.Mark.{the_type}
 use Rattle.kt_read.specs.declared.tokens.Mark.{Mark}
 use Rattle.kt_read.specs.declared.tokens.Mark.TheVariants as T
@@ -24,9 +14,9 @@ use Rattle.kt_read.specs.declared.tokens.Symbol.{Symbol}
 use Rattle.kt_read.specs.declared.tokens.Symbol.TheVariants as S
 use Rattle.kt_read.specs.declared.tokens.Tok.{Tok}
 use Rattle.kt_read.specs.Tokens.{◌·◌, named, numbered}
-use Rattle.kt_read.specs.ThinGrammar.{ReadsMaybe, left_out, written, ReadsObject, object, ReadsThing, number, element, ReadsValue, alone, sum, ReadsWrite, write, ReadsTask, task, ReadsFork, fork, ReadsThin, thin}
-use Rattle.kt_read.specs.Descent.{◌>>=◌, begins, is_mark, is_word, is_name, is_number, mark_at, word_at, maybe_at, name_of, name_at, number_of, number_at, all_at, object_at, index_at, element_at, thing_at, value_at, write_at, param_at, task_at, argument_at, fork_at, main_at, thin_at}
-use Rattle.kt_read.proofs.Many.{Agrees, bind_some, some_is, all_sound, all_complete}
+use Rattle.kt_read.specs.ThinGrammar.{ReadsMaybe, left_out, written, ReadsObject, object, ReadsThing, number, element, ReadsValue, alone, sum, ReadsWrite, write}
+use Rattle.kt_read.specs.Descent.{◌>>=◌, begins, is_mark, is_word, is_name, is_number, mark_at, word_at, maybe_at, name_of, name_at, number_of, number_at, object_at, index_at, element_at, thing_at, value_at, write_at}
+use Rattle.kt_read.proofs.Many.{Agrees, bind_some, some_is}
 
 -- ---- one token
 

@@ -1,5 +1,5 @@
 -- What the descent reads of tasks, forks and a whole job is what the grammar derives.
-use Rattle.std.proofs.Common.{◌≡◌, ℕ, ◌<◌, Bool, true, false, List, [], ◌∷◌, length, Option, Some, None, codes, refl, ap, sym, subst, ◌∙◌, arith}
+use Rattle.std.proofs.Common.{◌≡◌, ℕ, ◌<◌, true, false, List, [], ◌∷◌, length, Some, None, codes, refl, subst, arith}
 use Rattle.kt_law.specs.declared.places.Place.{Place}
 use Rattle.kt_law.specs.declared.modes.Mode.TheVariants.{X}
 use Rattle.kt_prog.specs.declared.programs.Arg.{Arg}
@@ -17,8 +17,8 @@ use Rattle.kt_read.specs.declared.tokens.Mark.TheVariants as T
 use Rattle.kt_read.specs.declared.tokens.Tok.{Tok}
 use Rattle.kt_read.specs.Tokens.{◌·◌, named}
 use Rattle.kt_read.specs.ThinGrammar.{Many, no_more, one_more, ReadsObject, ReadsWrite, ReadsTask, task, ReadsFork, fork, ReadsThin, thin}
-use Rattle.kt_read.specs.Descent.{begins, is_mark, is_name, mark_at, all_at, object_at, write_at, param_at, task_at, argument_at, fork_at, main_at, thin_at}
-use Rattle.kt_read.proofs.Many.{Agrees, bind_some, some_is, all_sound, all_complete, many_shorter}
+use Rattle.kt_read.specs.Descent.{begins, is_mark, is_name, object_at, write_at, param_at, task_at, argument_at, fork_at, main_at, thin_at}
+use Rattle.kt_read.proofs.Many.{Agrees, bind_some, all_sound, all_complete, many_shorter}
 use Rattle.kt_read.proofs.ThinParts.{mark_sound, word_sound, name_sound, behind, at_front, read_is, objects_agree, writes_agree}
 
 -- ---- a task
@@ -150,6 +150,8 @@ no_object (one_more (task writes) tasks) = refl
 pub thin_complete : {program : Program} {ts us : List Tok} → ReadsThin program ts us → thin_at ts ≡ Some (program, us)
 unfolding thin_at main_at
 thin_complete (thin families tasks forks) =
-    rw (all_complete ReadsObject (is_mark T.Object) object_at objects_agree families (no_object tasks),
+    rw (
+      all_complete ReadsObject (is_mark T.Object) object_at objects_agree families (no_object tasks),
       all_complete ReadsTask (is_mark T.Task) task_at tasks_agree tasks refl,
-      all_complete ReadsFork (is_mark T.Fork) fork_at forks_agree forks refl) refl
+      all_complete ReadsFork (is_mark T.Fork) fork_at forks_agree forks refl,
+    ) refl

@@ -1,9 +1,8 @@
 -- The tokens of a job, one after another, up to the word `data`.
-use Rattle.std.proofs.Common.{◌≡◌, ℕ, Bool, true, false, List, [], ◌∷◌, ◌++◌, map, Result, Ok, Err, refl, ap, sym, subst, ◌∙◌, append_assoc}
+use Rattle.std.proofs.Common.{◌≡◌, ℕ, Bool, true, false, List, [], ◌∷◌, ◌++◌, Result, Ok, Err, refl, ap, sym, subst, ◌∙◌, append_assoc}
 use Rattle.kt_law.specs.declared.places.Refusal.{Refusal}
 use Rattle.kt_text.specs.declared.tokens.Token.{Token}
 use Rattle.kt_text.specs.Tokens.{Lexes, next_token}
-use Rattle.kt_read.specs.declared.tokens.Mark.{Mark}
 use Rattle.kt_read.specs.declared.tokens.Mark.TheVariants as T
 use Rattle.kt_read.specs.declared.tokens.Symbol.{Symbol}
 use Rattle.kt_read.specs.declared.tokens.Symbol.TheVariants as S
@@ -49,9 +48,12 @@ is_next : (bytes : List ℕ) (at stop : ℕ) (token : Token) (more : List Token)
 is_next bytes at stop token [] e lexed ended = absurd ended
 is_next bytes at stop token (t ∷ rest) e lexed ended =
     let first : next_token bytes at ≡ Ok t = lexed.0 in
-    let same : t ≡ token = cc in
-    (rest, ap (λ (t : Token). t ∷ rest) same, subst (λ (t : Token). Lexes bytes t.stop rest stop) same lexed.1,
-      subst (λ (t : Token). AtSymbol (tok_of bytes t).symbol (toks_of bytes rest ≡ []) (IsUpToData (toks_of bytes rest))) same ended)
+    let same : t ≡ token = cc in (
+      rest,
+      ap (λ (t : Token). t ∷ rest) same,
+      subst (λ (t : Token). Lexes bytes t.stop rest stop) same lexed.1,
+      subst (λ (t : Token). AtSymbol (tok_of bytes t).symbol (toks_of bytes rest ≡ []) (IsUpToData (toks_of bytes rest))) same ended,
+    )
 
 pub passed_more : (bytes : List ℕ) (at : ℕ) (toks : List Tok) (token : Token) → Passed bytes at toks → next_token bytes at ≡ Ok token →
     ((tok_of bytes token).symbol ≡ S.Mark T.Data → ⊥) → ((tok_of bytes token).symbol ≡ S.End → ⊥) → Passed bytes token.stop (toks ++ tok_of bytes token ∷ [])
@@ -63,9 +65,12 @@ passed_more bytes at toks token p e no_data no_end = record {
       (p.ends (token ∷ more) (went_on (tok_of bytes token).symbol (toks_of bytes more ≡ []) (IsUpToData (toks_of bytes more)) no_data no_end h));
   only = λ all stop h.
       let m = p.only all stop h in
-      let n = is_next bytes at stop token m.0 e m.2 m.3 in
-      (n.0, m.1 ∙ ap (λ ts. p.tokens ++ ts) n.1 ∙ sym (append_assoc p.tokens (token ∷ []) n.0), n.2,
-        goes_on (tok_of bytes token).symbol (toks_of bytes n.0 ≡ []) (IsUpToData (toks_of bytes n.0)) no_data no_end n.3);
+      let n = is_next bytes at stop token m.0 e m.2 m.3 in (
+        n.0,
+        m.1 ∙ ap (λ ts. p.tokens ++ ts) n.1 ∙ sym (append_assoc p.tokens (token ∷ []) n.0),
+        n.2,
+        goes_on (tok_of bytes token).symbol (toks_of bytes n.0 ≡ []) (IsUpToData (toks_of bytes n.0)) no_data no_end n.3,
+      );
 }
 
 no_toks : (bytes : List ℕ) (tokens : List Token) → toks_of bytes tokens ≡ [] → tokens ≡ []

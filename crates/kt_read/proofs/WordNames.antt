@@ -1,5 +1,5 @@
 -- A token that is a word may be a name.
-use Rattle.std.proofs.Common.{◌≡◌, ℕ, ◌+◌, ◌-◌, ◌<◌, ◌≤◌, ◌^◌, Bool, true, false, cond, List, [], ◌∷◌, length, take, drop, get_or, refl, ap, sym, subst, ◌∙◌, arith, Result, Ok, Err, IfOk, slice_index, slice_range, nat_lt, nat_le, inl, inr}
+use Rattle.std.proofs.Common.{◌≡◌, ℕ, ◌+◌, ◌-◌, ◌<◌, ◌≤◌, ◌^◌, true, false, List, [], ◌∷◌, take, drop, get_or, refl, ◌∙◌, arith, Result, Ok, Err, IfOk, slice_index, slice_range, nat_lt, nat_le, inl, inr}
 use Rattle.std.specs.Prelude.{◌==◌, ◌||◌}
 use Rattle.std.specs.Char.{is_ascii_digit}
 use Rattle.std.specs.List.{prefix_len}
@@ -49,11 +49,13 @@ word_name b bs h =
     let some : 0 < prefix_len is_word_byte (b ∷ bs) = rw is_word (omega arith) in
     cases (IsNameIn (b ∷ bs)) (nat_lt WORD_BYTES n) (λ _. refused (b ∷ bs) P2)
     (λ short. let few : n ≤ WORD_BYTES = not_long n short in
-      record { is = λ _. record {
+    record {
+      is = λ _. record {
         some = rw (length-prefix_len is_word_byte (b ∷ bs)) some;
         few = rw (length-prefix_len is_word_byte (b ∷ bs)) few;
         ascii = prefix_small (b ∷ bs);
-      } })
+      };
+    })
 
 other_kind : (text : List ℕ) (kind : TokenKind) (n : ℕ) → (kind ≡ K.Word → ⊥) → IsNameIn text (Ok (kind, n))
 other_kind text kind n h = record { is = λ e. absurd (h e) }

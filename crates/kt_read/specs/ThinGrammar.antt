@@ -4,11 +4,9 @@ use Rattle.std.specs.Prelude.{ℕ, Bool, true, false, List, [], ◌∷◌, None,
 use Rattle.kt_law.specs.declared.places.Place.{Place}
 use Rattle.kt_law.specs.declared.operators.BinOp.TheVariants.{Add}
 use Rattle.kt_law.specs.declared.modes.Mode.TheVariants.{X}
-use Rattle.kt_prog.specs.declared.programs.Arg.{Arg}
 use Rattle.kt_prog.specs.declared.programs.ArgWhat.TheVariants.{Value}
 use Rattle.kt_prog.specs.declared.programs.Expr.{Expr, Num, Var, Elem, Bin}
 use Rattle.kt_prog.specs.declared.programs.Family.{Family}
-use Rattle.kt_prog.specs.declared.programs.Param.{Param}
 use Rattle.kt_prog.specs.declared.programs.Program.{Program}
 use Rattle.kt_prog.specs.declared.programs.Sort.TheVariants.{One}
 use Rattle.kt_prog.specs.declared.programs.Stmt.{Stmt}

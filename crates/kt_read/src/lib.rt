@@ -4,6 +4,8 @@
 mod cursors;
 mod descent;
 mod rows;
+#[cfg(test)]
+mod tests;
 mod thin_jobs;
 mod tokens;
 mod words;

@@ -1,4 +1,4 @@
-use Rattle.std.proofs.Common.{◌≡◌, ℕ, ◌≤◌, List, [], ◌∷◌, ◌++◌, length, refl, ap, sym, subst, ◌∙◌, arith}
+use Rattle.std.proofs.Common.{ℕ, ◌≤◌, List, [], ◌∷◌, ◌++◌, length, refl, ap, sym, subst, ◌∙◌, arith}
 use Rattle.kt_read.specs.declared.tokens.Tok.{Tok}
 use Rattle.kt_read.proofs.WordNames.{word_is_name}
 use Rattle.kt_read.proofs.ToData.{Passed, passed_none, passed_more, passed_last, passed_end, passed_refused, same_text, not_both}
@@ -31,8 +31,8 @@ each-preserved c =
     let grown = c.in_ok-push.ensures.items ∙ ap (λ (t : Tok). c.each.toks.items ++ t ∷ []) c.tok-next.ensures in
     let symbol = ap (λ (t : Tok). t.symbol) c.tok-next.ensures in
     let passed = passed_more _ c.each.lexer.at _ _ c.each.invariant.passed (same_text c.each.lexer.at c.each.invariant.text c.in-Ok.ensures.token)
-        (λ h. not_both (c.is_data-last.ensures.1 (symbol ∙ h)) c.if-last.false)
-        (λ h. not_both (c.is_end.ensures.1 (symbol ∙ h)) c.if-is_end.false) in
+    (λ h. not_both (c.is_data-last.ensures.1 (symbol ∙ h)) c.if-last.false)
+    (λ h. not_both (c.is_end.ensures.1 (symbol ∙ h)) c.if-is_end.false) in
     rw c.in-Ok.ensures.moved (record {
       text = c.each.invariant.text;
       within = subst (λ (text : List ℕ). c.in-Ok.token.stop ≤ length text) c.each.invariant.text c.in-Ok.ensures.within.within;
