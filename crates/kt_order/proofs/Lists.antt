@@ -1,10 +1,7 @@
--- What holds of each call of a list.
+-- What holds of each of a list.
 use Rattle.std.proofs.Common.{List, [], ◌∷◌}
+use Rattle.kt_order.specs.Lists.{AllOf}
 
-abbrev pub AllOf : {C : Type 0} → (C → Type 0) → List C → Type 0
-AllOf P [] = Unit {0}
-AllOf P (c ∷ cs) = P c × AllOf P cs
-
-pub all_of_more : {C : Type 0} → (P Q : C → Type 0) → ((c : C) → P c → Q c) → (cs : List C) → AllOf P cs → AllOf Q cs
+pub all_of_more : {X : Type 0} → (P Q : X → Type 0) → ((x : X) → P x → Q x) → (xs : List X) → AllOf P xs → AllOf Q xs
 all_of_more P Q f [] h = tt
-all_of_more P Q f (c ∷ cs) h = (f c h.0, all_of_more P Q f cs h.1)
+all_of_more P Q f (x ∷ xs) h = (f x h.0, all_of_more P Q f xs h.1)

@@ -7,7 +7,7 @@ use Rattle.kt_order.specs.Forest.{Unclaimed, Finished, Task, Forest, Nil, Node, 
 use Rattle.kt_order.specs.Rest.{left_of, left}
 use Rattle.kt_order.specs.Events.{AllFinished}
 use Rattle.kt_order.specs.Lawful.{PhaseOk, TaskOk}
-use Rattle.kt_order.proofs.Lists.{AllOf}
+use Rattle.kt_order.specs.Lists.{AllOf}
 use Rattle.kt_order.proofs.Stands.{stand_none}
 use Rattle.kt_order.proofs.Bounds.{IsStop, Bounded, bounded}
 
@@ -16,7 +16,7 @@ module _ (m : Machine) where
   tasks_of P Nil h = tt
   tasks_of P (Node u kids later) h = (h.0, tasks_of P later h.1)
 
-  no_calls : (F : Forest m) → calls m F ≡ [] → F ≡ Nil
+  pub no_calls : (F : Forest m) → calls m F ≡ [] → F ≡ Nil
   no_calls Nil e = refl
   no_calls (Node u kids later) e = cc
 
@@ -31,7 +31,8 @@ module _ (m : Machine) where
     pub left_is : (u : Task m) (kids : Forest m) (ok : TaskOk m rights u kids) → left m u ≡ ok.st.left
     left_is u kids ok = ap (left_of m) ok.stands
 
-    is_bounded : (u : Task m) (kids : Forest m) (ok : TaskOk m rights u kids) → Bounded m (rights.Directly u.call) (rights.Handed u.call) (Past m rights) ok.st
+    is_bounded : (u : Task m) (kids : Forest m) (ok : TaskOk m rights u kids)
+        → Bounded m (rights.Directly u.call) (rights.Handed u.call) (Past m rights) ok.st
     is_bounded u kids ok = bounded m (rights.Directly u.call) (rights.Handed u.call) (Past m rights) (m.tree u.call) u.answers u.done ok.st (l.within u.call ok.fits) ok.stands
 
     pub node_is : (u : Task m) (kids : Forest m) → TaskOk m rights u kids → NodeIs u kids
@@ -51,12 +52,14 @@ module _ (m : Machine) where
         let none = stand_none m (m.tree u.call) u.answers ok.st (subst (λ n. stand m (m.tree u.call) u.answers n ≡ Some ok.st) zero_done ok.stands) in
         no_calls kids (ok.forked ∙ ap (λ s. s.forks) none.1)
 
-    pub unclaimed_not_over : (u : Task m) (kids : Forest m) (ok : TaskOk m rights u kids) → u.phase ≡ Unclaimed → ok.st.over ≡ false
+    pub unclaimed_not_over : (u : Task m) (kids : Forest m) (ok : TaskOk m rights u kids) → u.phase ≡ Unclaimed
+        → ok.st.over ≡ false
     unclaimed_not_over u kids ok e =
         let zero_done = subst (λ ph. PhaseOk m ph u ok.st kids) e ok.phase in
         ap (λ s. s.over) (stand_none m (m.tree u.call) u.answers ok.st (subst (λ n. stand m (m.tree u.call) u.answers n ≡ Some ok.st) zero_done ok.stands)).1
 
-    pub finished_ok : (u : Task m) (kids : Forest m) → TaskOk m rights u kids → u.phase ≡ Finished → IsStop m (left m u) × AllFinished m kids
+    pub finished_ok : (u : Task m) (kids : Forest m) → TaskOk m rights u kids → u.phase ≡ Finished
+        → IsStop m (left m u) × AllFinished m kids
     finished_ok u kids ok e =
         let fin = subst (λ ph. PhaseOk m ph u ok.st kids) e ok.phase in
         (subst (IsStop m) (sym (left_is u kids ok)) ((is_bounded u kids ok).stops fin.0), fin.1)

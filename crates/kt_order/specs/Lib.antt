@@ -1,3 +1,4 @@
+pub mod Lists
 pub mod Body
 pub mod Machine
 pub mod Sequential
@@ -10,4 +11,11 @@ pub mod Events
 pub mod Lawful
 pub mod Shown
 pub mod Places
+pub mod Books
+pub mod Loops
+pub mod LoopTheorems
 pub mod Theorems
+pub mod Paths
+pub mod Named
+pub mod Listed
+pub mod PathTheorems

@@ -1,13 +1,9 @@
 -- The operations of a body, in order, with given answers.
-use Rattle.std.specs.Prelude.{◌≡◌, ℕ, zero, suc, Bool, true, false, List, [], ◌∷◌, ◌++◌, Option, Some, None}
+use Rattle.std.specs.Prelude.{◌≡◌, ℕ, Bool, true, false, List, [], ◌∷◌, ◌++◌, Option, Some}
+use Rattle.kt_order.specs.Lists.{nth}
 use Rattle.kt_order.specs.Body.{Stop, Do, Fork}
 use Rattle.kt_order.specs.Machine.{Machine, Code}
 use Rattle.kt_order.specs.Sequential.{keeps}
-
-abbrev pub nth : {X : Type 0} → List X → ℕ → Option X
-nth [] n = None
-nth (x ∷ xs) zero = Some x
-nth (x ∷ xs) (suc n) = nth xs n
 
 module _ (m : Machine) where
   pub data Operation : Type 0 where

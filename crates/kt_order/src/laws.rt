@@ -1,5 +1,5 @@
 //! The laws of the theory. The functions do nothing; their contracts are the laws.
-ghost use Rattle.kt_order.specs.Theorems.{DoneStays, EventKeepsLawful, EveryOrderIsSequential, FinishedIsSequential, MovesLeftFall, NextIsFirst, NoMoreTasks, OpeningIsLawful, SideBySideAreApart, SomeEventIsEnabled, TasksBeginEntries, UpperGoesPast};
+ghost use Rattle.kt_order.specs.Theorems.{DoneStays, EventKeepsLawful, EveryOrderIsSequential, FinishedIsSequential, MovesLeftFall, NextIsFirst, NoMoreTasks, OpeningIsLawful, RunKeepsLawful, SideBySideAreApart, SomeEventIsEnabled, TasksBeginEntries, UpperGoesPast};
 
 use crate::Program;
 
@@ -11,6 +11,11 @@ pub fn opening_is_lawful<P: Program>()
 /// An event that is enabled in a lawful state leaves a lawful state.
 pub fn event_keeps_lawful<P: Program>()
     ensures { EventKeepsLawful P.machine P.rights }
+{}
+
+/// So does a list of events, each enabled where the earlier ones lead.
+pub fn run_keeps_lawful<P: Program>()
+    ensures { RunKeepsLawful P.machine P.rights }
 {}
 
 /// A lawful state whose root is finished has the store and the entries of the sequential run.

@@ -3,6 +3,10 @@
 #![tactic(auto)]
 
 pub mod laws;
+pub mod loops;
+pub mod paths;
 mod program;
+#[cfg(test)]
+mod tests;
 
 pub use program::Program;
