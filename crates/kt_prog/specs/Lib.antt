@@ -25,4 +25,5 @@ pub mod Reference
 pub mod Runs
 pub mod Entries
 pub mod Outcome
+pub mod LastWriter
 pub mod Laws
