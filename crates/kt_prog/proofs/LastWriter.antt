@@ -31,7 +31,8 @@ member_below k e members elements lt le =
     omega (arith, more, suc-mul k elements)
 
 -- an element's number is below the number of all elements
-place_below : (families : List Family) (object element : ℕ) → element < width_of families object → first_element_of families object + element < elements_of families
+place_below : (families : List Family) (object element : ℕ) → element < width_of families object
+    → first_element_of families object + element < elements_of families
 place_below [] object element lt = omega arith
 place_below (f ∷ families) object element lt =
     family_below (nat_lt object f.members) refl lt (λ h. place_below families (object - f.members) element h)
@@ -45,7 +46,8 @@ place_below (f ∷ families) object element lt =
     family_below false is h more = omega (arith, more h)
 
 -- as many numbers as there are elements
-opened_length : (families : List Family) (input : List ℕ) → length input ≡ inputs_of families → length (opened_with families input) ≡ elements_of families
+opened_length : (families : List Family) (input : List ℕ) → length input ≡ inputs_of families
+    → length (opened_with families input) ≡ elements_of families
 opened_length [] input h = refl
 opened_length (f ∷ families) input h = family_opened f.input (f.members * f.elements) families input h (λ more e. opened_length families more e)
   where
@@ -62,10 +64,12 @@ opened_length (f ∷ families) input h = family_opened f.input (f.members * f.el
         omega (arith, length-append (replicate n 0) (opened_with families input), zeros, after)
 
 -- what is read after a number was changed
-read_changed : (q e : ℕ) (f : ℕ → ℕ) (s : List ℕ) → q < length s → slice_index (slice_set s q (f (slice_index s q))) e ≡ (if nat_eq q e then f (slice_index s e) else slice_index s e)
+read_changed : (q e : ℕ) (f : ℕ → ℕ) (s : List ℕ) → q < length s
+    → slice_index (slice_set s q (f (slice_index s q))) e ≡ (if nat_eq q e then f (slice_index s e) else slice_index s e)
 read_changed q e f s lt = cases (nat_eq q e) refl
   where
-    cases : (b : Bool) → nat_eq q e ≡ b → slice_index (slice_set s q (f (slice_index s q))) e ≡ (if b then f (slice_index s e) else slice_index s e)
+    cases : (b : Bool) → nat_eq q e ≡ b
+        → slice_index (slice_set s q (f (slice_index s q))) e ≡ (if b then f (slice_index s e) else slice_index s e)
     cases true is =
         let same : q ≡ e = grind (arith, nat_tests) in
         subst (λ (x : ℕ). slice_index (slice_set s q (f (slice_index s q))) x ≡ f (slice_index s x)) same (get_or-set_same s q (f (slice_index s q)) 0 lt)
@@ -131,7 +135,8 @@ module _ (p : Program) where
 
   -- what a body may do is there, and what it forks fits
   module _ (job : Job) where
-    placed_acts : (path : List ℕ) (n : ℕ) (w : Script) → Keeps (Directly p job) (Forks p job) w → ((act : Act) → Directly p job act → There act) → Acts m There (placed path n w)
+    placed_acts : (path : List ℕ) (n : ℕ) (w : Script) → Keeps (Directly p job) (Forks p job) w
+        → ((act : Act) → Directly p job act → There act) → Acts m There (placed path n w)
     placed_acts path n (Stop f) keeps there = tt
     placed_acts path n (Do act k) keeps there = (there act keeps.0, λ a. placed_acts path n (k a) (keeps.1 a) there)
     placed_acts path n (Fork c w) keeps there = placed_acts path (suc n) w keeps.1 there
@@ -144,7 +149,8 @@ module _ (p : Program) where
     fork_fits path n (Whole call) fits = fits
     fork_fits path n (Index call i) fits = fits
 
-    forks_fit : (path : List ℕ) (n : ℕ) (w : Script) (s : List ℕ) → Keeps (Directly p job) (Forks p job) w → ((child : Job) → Forks p job child → FitsJob p child) → EachFits (alone m (placed path n w) s).forks
+    forks_fit : (path : List ℕ) (n : ℕ) (w : Script) (s : List ℕ) → Keeps (Directly p job) (Forks p job) w
+        → ((child : Job) → Forks p job child → FitsJob p child) → EachFits (alone m (placed path n w) s).forks
     forks_fit path n (Stop f) s keeps fits = tt
     forks_fit path n (Do act k) s keeps fits = forks_fit path n (k (m.answer act s)) (m.after act s) (keeps.1 (m.answer act s)) fits
     forks_fit path n (Fork c w) s keeps fits = (fork_fits path n c (fits c keeps.0), forks_fit path (suc n) w s keeps.1 fits)
@@ -207,12 +213,14 @@ module _ (p : Program) where
   written_first e opening x (Ended f ∷ xs) = written_first e opening x xs
 
   -- the store behind the first operation, and what it has of an element
-  first_leads : (e : ℕ) (x : Operation m) (xs : Ops) (s t : List ℕ) → Leads s (x ∷ xs) t → (u : List ℕ) × Leads u xs t × (slice_index u e ≡ changed e x (slice_index s e))
+  first_leads : (e : ℕ) (x : Operation m) (xs : Ops) (s t : List ℕ) → Leads s (x ∷ xs) t
+      → (u : List ℕ) × Leads u xs t × (slice_index u e ≡ changed e x (slice_index s e))
   first_leads e (Forked c) xs s t h = (s, h, refl)
   first_leads e (Ended f) xs s t h = (s, h, refl)
   first_leads e (Acted act a) xs s t h = (after p.families act s, h.2, read_changed (place_of p.families act) e (effect act.deed) s h.0)
 
-  load_finds : (before rest : Ops) (s t : List ℕ) (o i a : ℕ) → Leads s (before ++ Acted (record { object = o; element = i; deed = Load }) a ∷ rest) t
+  load_finds : (before rest : Ops) (s t : List ℕ) (o i a : ℕ)
+      → Leads s (before ++ Acted (record { object = o; element = i; deed = Load }) a ∷ rest) t
       → let e = first_element_of p.families o + i in a ≡ written p e (slice_index s e) (reverse before)
   load_finds [] rest s t o i a h = h.1 refl
   load_finds (x ∷ before) rest s t o i a h =

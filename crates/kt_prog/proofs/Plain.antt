@@ -76,8 +76,11 @@ Nothing x = Unit {0}
 
 module _ (lost : Script → Script) (p : Program) (ok : Parts p) where
   -- a fork hands a call on that fits
-  handed : (rights : List Access) (depth : ℕ) (own : Option ℕ) (H : Job → Type 0) → ((call : CallTree) → own ≡ None → HandsOn p rights depth call → H (Whole call))
-      → own ≡ None → (name : List ℕ) (t : Target) → target_of p.tasks name ≡ Some t → (call : CallTree) → FitsTarget (objects_of p.families) call t → call.depth ≡ suc depth → EachOf (λ b. SomeOf (Covers b) rights) call.accesses → H (Whole call)
+  handed : (rights : List Access) (depth : ℕ) (own : Option ℕ) (H : Job → Type 0)
+      → ((call : CallTree) → own ≡ None → HandsOn p rights depth call → H (Whole call))
+      → own ≡ None → (name : List ℕ) (t : Target) → target_of p.tasks name ≡ Some t → (call : CallTree)
+      → FitsTarget (objects_of p.families) call t → call.depth ≡ suc depth → EachOf (λ b. SomeOf (Covers b) rights) call.accesses
+      → H (Whole call)
   handed rights depth own H on none name t is call fits deeper covered =
       on call none (record { fits = is_call t (subst (λ (n : ℕ). target_at p.tasks n ≡ Some t) (sym fits.number) (target_is p.tasks name t ok.few is)) fits; deeper = deeper; covered = covered })
 
@@ -105,14 +108,17 @@ module _ (lost : Script → Script) (p : Program) (ok : Parts p) where
 
   -- statements of a task or of an index
   module _ (rights : List Access) (depth : ℕ) (own : Option ℕ) (H : Job → Type 0) (on : (call : CallTree) → own ≡ None → HandsOn p rights depth call → H (Whole call)) (room : EachOf (Inside (objects_of p.families)) rights) where
-    statements_good : (in_main : Bool) (fam : in_main ≡ true → FamiliesMatch (site_of p in_main depth) rights own) (s : Scope) (locals : List Local) (body : List Stmt) → Agrees (site_of p in_main depth) rights own s locals → block_rules (map rules_of_stmt body) s ≡ []
+    statements_good : (in_main : Bool) (fam : in_main ≡ true → FamiliesMatch (site_of p in_main depth) rights own) (s : Scope) (locals : List Local) (body : List Stmt)
+        → Agrees (site_of p in_main depth) rights own s locals → block_rules (map rules_of_stmt body) s ≡ []
         → Good (Allowed p.families rights own) H Nothing (statements lost (site_of p in_main depth) locals body)
     statements_good in_main fam s locals body a h =
         good_then _ H (Ends lost (site_of p in_main depth) rights own H fam (objects_of p.families) room (handed rights depth own H on) s) Nothing _ _
         (body_keeps lost (site_of p in_main depth) rights own H fam (objects_of p.families) room (handed rights depth own H on) body s (record { locals = locals; steps = STEPS }) a h)
         (λ st e. good_give _ H Nothing tt tt)
 
-  pub task_good : (call : CallTree) (t : Task) (n : ℕ) (H : Job → Type 0) → RulesOf t → t.index ≡ None → FitsTarget (objects_of p.families) call (target n t) → ((child : CallTree) → HandsOn p call.accesses call.depth child → H (Whole child))
+  pub task_good : (call : CallTree) (t : Task) (n : ℕ) (H : Job → Type 0) → RulesOf t → t.index ≡ None
+      → FitsTarget (objects_of p.families) call (target n t)
+      → ((child : CallTree) → HandsOn p call.accesses call.depth child → H (Whole child))
       → Good (Allowed p.families call.accesses None) H Nothing (task_body lost p call (Some t))
   task_good call t n H r none fits on =
       let site = site_of p false call.depth in
@@ -132,11 +138,13 @@ module _ (lost : Script → Script) (p : Program) (ok : Parts p) where
         room = subst (λ (names : List Known). length names ≤ 1 + INTS + ACCESSES + 0) (sym same) room;
       }) r.body
 
-  loop_index : (index : Option I.Index) (length : ℕ) (i : ℕ) → i < length → (is_loop_of index ≡ false → length ≡ 0) → (x : I.Index) × (index ≡ Some x)
+  loop_index : (index : Option I.Index) (length : ℕ) (i : ℕ) → i < length → (is_loop_of index ≡ false → length ≡ 0)
+      → (x : I.Index) × (index ≡ Some x)
   loop_index None length i lt formed = let e : length ≡ 0 = formed refl in absurd (omega arith)
   loop_index (Some x) length i lt formed = (x, refl)
 
-  pub index_good : (call : CallTree) (t : Task) (n i : ℕ) (H : Job → Type 0) → RulesOf t → FitsTarget (objects_of p.families) call (target n t) → i < call.length
+  pub index_good : (call : CallTree) (t : Task) (n i : ℕ) (H : Job → Type 0) → RulesOf t
+      → FitsTarget (objects_of p.families) call (target n t) → i < call.length
       → Good (Allowed p.families call.accesses (Some i)) H Nothing (index_body lost p call i (Some t))
   index_good call t n i H r fits lt =
       let site = site_of p false call.depth in
@@ -158,7 +166,8 @@ module _ (lost : Script → Script) (p : Program) (ok : Parts p) where
         room = subst (λ (x : Option I.Index). length (known_index x ++ map known_param t.params) ≤ 1 + INTS + ACCESSES + 0) (sym loop.1) room;
       }) r.body
 
-  main_good : (mains : List Main) (H : Job → Type 0) → main_rules p.end mains ≡ [] → mains_rules p mains ≡ [] → ((child : CallTree) → HandsOn p (rights_at (objects_of p.families) [] 0) 0 child → H (Whole child))
+  main_good : (mains : List Main) (H : Job → Type 0) → main_rules p.end mains ≡ [] → mains_rules p mains ≡ []
+      → ((child : CallTree) → HandsOn p (rights_at (objects_of p.families) [] 0) 0 child → H (Whole child))
       → Good (Allowed p.families (rights_at (objects_of p.families) [] 0) None) H Nothing (main_body lost p mains)
   main_good [] H there h on = cc
   main_good (m ∷ mains) H there h on =
@@ -168,20 +177,23 @@ module _ (lost : Script → Script) (p : Program) (ok : Parts p) where
       (record { families = refl; tasks = refl; in_main = refl; loop = tt; names = tt; room = omega arith })
       (left_none (block_rules (map rules_of_stmt m.body) (main_scope p)) (mains_rules p mains) h)
 
-  indexes_good : (call : CallTree) (D : Act → Type 0) (i n : ℕ) → i + n ≤ call.length → Good D (Forks p (Whole call)) Nothing (indexes call i n)
+  indexes_good : (call : CallTree) (D : Act → Type 0) (i n : ℕ) → i + n ≤ call.length
+      → Good D (Forks p (Whole call)) Nothing (indexes call i n)
   indexes_good call D i zero le = good_give D (Forks p (Whole call)) Nothing tt tt
   indexes_good call D i (suc n) le =
       let lt : i < call.length = omega arith in
       good_then D (Forks p (Whole call)) Nothing Nothing _ _ (good_fork D (Forks p (Whole call)) (Index call i) (refl, lt)) (λ _ _. indexes_good call D (suc i) n (omega arith))
 
   -- a call of the task or loop t
-  body_good : (call : CallTree) (t : Task) (n : ℕ) (x : Option I.Index) → t.index ≡ x → RulesOf t → FitsTarget (objects_of p.families) call (target n t) → rights_of p call ≡ call.accesses
+  body_good : (call : CallTree) (t : Task) (n : ℕ) (x : Option I.Index) → t.index ≡ x → RulesOf t
+      → FitsTarget (objects_of p.families) call (target n t) → rights_of p call ≡ call.accesses
       → Good (Allowed p.families call.accesses None) (Forks p (Whole call)) Nothing (task_or_loop lost p call (Some t) x)
   body_good call t n None e r fits same =
       task_good call t n (Forks p (Whole call)) r e fits (λ child h. subst (λ (rights : List Access). HandsOn p rights call.depth child) (sym same) h)
   body_good call t n (Some index) e r fits same = indexes_good call (Allowed p.families call.accesses None) 0 call.length (omega arith)
 
-  numbered_good : (call : CallTree) (k : ℕ) (t : Target) → call.task ≡ suc k → target_at p.tasks (suc k) ≡ Some t → FitsTarget (objects_of p.families) call t
+  numbered_good : (call : CallTree) (k : ℕ) (t : Target) → call.task ≡ suc k → target_at p.tasks (suc k) ≡ Some t
+      → FitsTarget (objects_of p.families) call t
       → Good (Allowed p.families call.accesses None) (Forks p (Whole call)) Nothing (call_body lost p call (suc k))
   numbered_good call k t e is fits = chosen (nat_lt k DEFINITIONS) (task_target p.tasks 1 k) (kernel_at (k - DEFINITIONS)) is
       (λ f. let u = task_of p.tasks 1 k t f in
@@ -197,7 +209,8 @@ module _ (lost : Script → Script) (p : Program) (ok : Parts p) where
       chosen false x y h f g = g h
 
   -- after the zeroing
-  after_good : (call : CallTree) (n : ℕ) → call.task ≡ n → Fits p call → Good (Directly p (Whole call)) (Forks p (Whole call)) Nothing (call_body lost p call n)
+  after_good : (call : CallTree) (n : ℕ) → call.task ≡ n → Fits p call
+      → Good (Directly p (Whole call)) (Forks p (Whole call)) Nothing (call_body lost p call n)
   after_good call zero e (is_main main) =
       let deep : call.depth ≡ 0 = ap (λ (c : CallTree). c.depth) main in
       let same : rights_of p call ≡ rights_at (objects_of p.families) [] 0 = ap (rights_at (objects_of p.families) call.accesses) e in
@@ -213,7 +226,8 @@ module _ (lost : Script → Script) (p : Program) (ok : Parts p) where
       (numbered_good call k t e (subst (λ (n : ℕ). target_at p.tasks n ≡ Some t) e is) fits)
 
   -- the accesses of a call are among its rights
-  among : (call : CallTree) (n : ℕ) → call.task ≡ n → Fits p call → (P : Access → Type 0) → SomeOf P call.accesses → SomeOf P (rights_of p call)
+  among : (call : CallTree) (n : ℕ) → call.task ≡ n → Fits p call → (P : Access → Type 0) → SomeOf P call.accesses
+      → SomeOf P (rights_of p call)
   among call zero e (is_main main) P s = absurd (subst (λ (c : CallTree). SomeOf P c.accesses) main s)
   among call zero e (is_call t is fits) P s = absurd (no_target (subst (λ (n : ℕ). target_at p.tasks n ≡ Some t) e is))
     where
@@ -228,7 +242,9 @@ module _ (lost : Script → Script) (p : Program) (ok : Parts p) where
   kernel_no_loop (suc (suc (suc zero))) t h = sym (ap (λ (y : Target). y.is_loop) (same_target h))
   kernel_no_loop (suc (suc (suc (suc k)))) t h = cc
 
-  indexed_good : (call : CallTree) (i k : ℕ) (t : Target) → target_at p.tasks (suc k) ≡ Some t → FitsTarget (objects_of p.families) call t → i < call.length → Good (Allowed p.families call.accesses (Some i)) (Forks p (Index call i)) Nothing (index_body lost p call i (task_at p.tasks k))
+  indexed_good : (call : CallTree) (i k : ℕ) (t : Target) → target_at p.tasks (suc k) ≡ Some t → FitsTarget (objects_of p.families) call t
+      → i < call.length
+      → Good (Allowed p.families call.accesses (Some i)) (Forks p (Index call i)) Nothing (index_body lost p call i (task_at p.tasks k))
   indexed_good call i k t is fits lt = chosen (nat_lt k DEFINITIONS) (task_target p.tasks 1 k) (kernel_at (k - DEFINITIONS)) is
       (λ f. let u = task_of p.tasks 1 k t f in
       subst (λ (y : Option Task). Good (Allowed p.families call.accesses (Some i)) (Forks p (Index call i)) Nothing (index_body lost p call i y)) (sym u.at)
@@ -242,7 +258,8 @@ module _ (lost : Script → Script) (p : Program) (ok : Parts p) where
       chosen true x y h f g = f h
       chosen false x y h f g = g h
 
-  of_index_good : (call : CallTree) (i n : ℕ) → call.task ≡ n → Fits p call → i < call.length → Good (Directly p (Index call i)) (Forks p (Index call i)) Nothing (index_body lost p call i (task_at p.tasks (call.task - 1)))
+  of_index_good : (call : CallTree) (i n : ℕ) → call.task ≡ n → Fits p call → i < call.length
+      → Good (Directly p (Index call i)) (Forks p (Index call i)) Nothing (index_body lost p call i (task_at p.tasks (call.task - 1)))
   of_index_good call i n e (is_main main) lt = let long : call.length ≡ 0 = ap (λ (c : CallTree). c.length) main in absurd (omega (arith, long, lt))
   of_index_good call i zero e (is_call t is f) lt = absurd (no_target (subst (λ (n : ℕ). target_at p.tasks n ≡ Some t) e is))
     where
@@ -268,7 +285,8 @@ module _ (lost : Script → Script) (p : Program) (ok : Parts p) where
 
 -- The law: whatever is done where a rule was broken, the bodies of an accepted program keep to the rights of their calls.
 -- So at no place a rule was broken, since what is done there might be an act that no right lets a body do.
-pub plain : (lost : Script → Script) (p : Program) → IsAccepted p → (job : Job) → FitsJob p job → Keeps (Directly p job) (Forks p job) (script_with lost p job)
+pub plain : (lost : Script → Script) (p : Program) → IsAccepted p → (job : Job) → FitsJob p job
+    → Keeps (Directly p job) (Forks p job) (script_with lost p job)
 plain lost p h = keeps lost p (parts p h)
 
 pub few_objects : (p : Program) → IsAccepted p → (objects_of p.families ≤ OBJECTS) × (elements_of p.families ≤ ELEMENTS)

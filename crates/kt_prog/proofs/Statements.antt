@@ -78,10 +78,13 @@ module _ (lost : Script → Script) (site : Site) (rights : List Access) (own : 
   pub record KeepsWhat (r : Place → StmtRules) (m : ℕ → StmtMeaning) : Type 0 where
     pub at : (place : Place) (line : ℕ) → KeepsStmt (r place) (m line)
 
-  number_good : (s : Scope) (locals : List Local) (line : ℕ) (e : Expr) → Agree s locals → breaches_in e s ≡ [] → GoodAt (λ (n : ℕ). Unit {0}) (value_of lost e (view_of lost site rights own H fam locals line))
+  number_good : (s : Scope) (locals : List Local) (line : ℕ) (e : Expr) → Agree s locals → breaches_in e s ≡ []
+      → GoodAt (λ (n : ℕ). Unit {0}) (value_of lost e (view_of lost site rights own H fam locals line))
   number_good s locals line e a h = record { keeps = λ go k. ((expr_keeps lost site rights own H fam e).good s locals line a h).keeps go (λ x o. k x tt) }
 
-  pub block_good : (xs : List ((x : Stmt) × KeepsStmt (rules_of_stmt x) (stmt_of lost x))) (s : Scope) (st : State) → Agree s st.locals → block_rules (map rules_of_stmt (map (λ e. e.0) xs)) s ≡ [] → GoodAt (Ends s) (block (map (stmt_of lost) (map (λ e. e.0) xs)) site st)
+  pub block_good : (xs : List ((x : Stmt) × KeepsStmt (rules_of_stmt x) (stmt_of lost x))) (s : Scope) (st : State) → Agree s st.locals
+      → block_rules (map rules_of_stmt (map (λ e. e.0) xs)) s ≡ []
+      → GoodAt (Ends s) (block (map (stmt_of lost) (map (λ e. e.0) xs)) site st)
   block_good [] s st a h = good_give _ H (Ends s) st (begins_all site rights own s.names st.locals a.names)
   block_good (x ∷ xs) s st a h =
       let r = rules_of_stmt x.0 s in
@@ -94,7 +97,8 @@ module _ (lost : Script → Script) (site : Site) (rights : List Access) (own : 
   step_good zero line st s a = good_stop _ H (After s) F6 line
   step_good (suc left) line st s a = good_give _ H (After s) (record { locals = st.locals; steps = left }) a
 
-  either_good : (n : ℕ) (P : State → Type 0) (x y : StmtMeaning) (st : State) → GoodAt P (x site st) → GoodAt P (y site st) → GoodAt P (either n x y site st)
+  either_good : (n : ℕ) (P : State → Type 0) (x y : StmtMeaning) (st : State) → GoodAt P (x site st) → GoodAt P (y site st)
+      → GoodAt P (either n x y site st)
   either_good zero P x y st g h = h
   either_good (suc n) P x y st g h = g
 
@@ -103,13 +107,17 @@ module _ (lost : Script → Script) (site : Site) (rights : List Access) (own : 
   room_good true P locals more e p = good_give _ H P more p
   room_good false P locals more e p = cc
 
-  new_good : (s : Scope) (locals : List Local) (name : List ℕ) (place : Place) (kind : Kind) (n : ℕ) → Agree s locals → new_name s name place ≡ [] → Suits site rights own kind (B.Number n) → GoodAt (λ after. Agree (with_name s name kind) after) (with_local lost locals name n)
+  new_good : (s : Scope) (locals : List Local) (name : List ℕ) (place : Place) (kind : Kind) (n : ℕ) → Agree s locals
+      → new_name s name place ≡ [] → Suits site rights own kind (B.Number n)
+      → GoodAt (λ after. Agree (with_name s name kind) after) (with_local lost locals name n)
   new_good s locals name place kind n a h suits = room_good (nat_lt (length locals) NAMES) (λ after. Agree (with_name s name kind) after) locals _ (room_left site rights own s locals name place a h) (agrees_new site rights own s locals name kind n a suits)
 
-  set_good : (s : Scope) (locals : List Local) (name : List ℕ) (place : Place) (n : ℕ) → Agree s locals → set_rule (kind_of s name) place ≡ [] → GoodAt (λ after. Agree s after) (assigned lost locals name n)
+  set_good : (s : Scope) (locals : List Local) (name : List ℕ) (place : Place) (n : ℕ) → Agree s locals
+      → set_rule (kind_of s name) place ≡ [] → GoodAt (λ after. Agree s after) (assigned lost locals name n)
   set_good s locals name place n a h = room_good (is_some (local_of locals name)) (λ after. Agree s after) locals (assign locals name n) (set_there site rights own s locals name place a h) (agrees_set site rights own s locals name place n a h)
 
-  turns_good : (n line : ℕ) (name : List ℕ) (place : Place) (value : ℕ) (body : StmtMeaning) (s : Scope) (len : ℕ) → len ≡ length s.names → new_name s name place ≡ []
+  turns_good : (n line : ℕ) (name : List ℕ) (place : Place) (value : ℕ) (body : StmtMeaning) (s : Scope) (len : ℕ) → len ≡ length s.names
+      → new_name s name place ≡ []
       → ((st : State) → Agree (with_name s name Number) st.locals → GoodAt (Ends (with_name s name Number)) (body site st))
       → (st : State) → Agree s st.locals → GoodAt (After s) (turns lost n len line name value body site st)
   turns_good zero line name place value body s len e fresh each st a = good_give _ H (After s) st a
@@ -129,7 +137,8 @@ module _ (lost : Script → Script) (site : Site) (rights : List Access) (own : 
   abbrev firsts : List Kept → List Stmt
   firsts xs = map (λ e. e.0) xs
 
-  what_layer : (y : What-F ((w : What) × KeepsWhat (rules_of_what w) (what_of lost w)) Kept) → KeepsWhat (what_rules (map-What _ _ _ _ rules_of_what rules_of_stmt (map-What _ _ _ _ (λ e. e.0) (λ e. e.0) y))) (what_step lost (map-What _ _ _ _ (what_of lost) (stmt_of lost) (map-What _ _ _ _ (λ e. e.0) (λ e. e.0) y)))
+  what_layer : (y : What-F ((w : What) × KeepsWhat (rules_of_what w) (what_of lost w)) Kept)
+      → KeepsWhat (what_rules (map-What _ _ _ _ rules_of_what rules_of_stmt (map-What _ _ _ _ (λ e. e.0) (λ e. e.0) y))) (what_step lost (map-What _ _ _ _ (what_of lost) (stmt_of lost) (map-What _ _ _ _ (λ e. e.0) (λ e. e.0) y)))
   what_layer (W.Let name place e) = record {
     at = λ at line. record {
       good = λ s st a h.
@@ -224,7 +233,8 @@ module _ (lost : Script → Script) (site : Site) (rights : List Access) (own : 
     };
   }
 
-  stmt_layer : (y : Stmt-F ((w : What) × KeepsWhat (rules_of_what w) (what_of lost w)) Kept) → KeepsStmt (stmt_rules (map-Stmt _ _ _ _ rules_of_what rules_of_stmt (map-Stmt _ _ _ _ (λ e. e.0) (λ e. e.0) y))) (stmt_step lost (map-Stmt _ _ _ _ (what_of lost) (stmt_of lost) (map-Stmt _ _ _ _ (λ e. e.0) (λ e. e.0) y)))
+  stmt_layer : (y : Stmt-F ((w : What) × KeepsWhat (rules_of_what w) (what_of lost w)) Kept)
+      → KeepsStmt (stmt_rules (map-Stmt _ _ _ _ rules_of_what rules_of_stmt (map-Stmt _ _ _ _ (λ e. e.0) (λ e. e.0) y))) (stmt_step lost (map-Stmt _ _ _ _ (what_of lost) (stmt_of lost) (map-Stmt _ _ _ _ (λ e. e.0) (λ e. e.0) y)))
   stmt_layer y =
       let w = y.what.1.at y.place y.place.line in
       record {
@@ -247,7 +257,8 @@ module _ (lost : Script → Script) (site : Site) (rights : List Access) (own : 
   same_stmts (x ∷ xs) = ap (λ ys. x ∷ ys) (same_stmts xs)
 
   -- the statements of a body keep to its rights
-  pub body_keeps : (xs : List Stmt) (s : Scope) (st : State) → Agree s st.locals → block_rules (map rules_of_stmt xs) s ≡ [] → GoodAt (Ends s) (block (map (stmt_of lost) xs) site st)
+  pub body_keeps : (xs : List Stmt) (s : Scope) (st : State) → Agree s st.locals → block_rules (map rules_of_stmt xs) s ≡ []
+      → GoodAt (Ends s) (block (map (stmt_of lost) xs) site st)
   body_keeps xs s st a h =
       subst (λ (ys : List Stmt). GoodAt (Ends s) (block (map (stmt_of lost) ys) site st)) (same_stmts xs)
       (block_good (map (λ x. (x, stmt_keeps x)) xs) s st a (subst (λ (ys : List Stmt). block_rules (map rules_of_stmt ys) s ≡ []) (sym (same_stmts xs)) h))

@@ -11,6 +11,7 @@ pub mod Statements
 pub mod Zeroing
 pub mod Kernels
 pub mod Bodies
+pub mod Operations
 pub mod Scope
 pub mod Rules
 pub mod ForkRules
