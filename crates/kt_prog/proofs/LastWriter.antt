@@ -1,22 +1,22 @@
 -- The loads of the reference run find what was written last.
-use Rattle.std.proofs.Common.{◌≡◌, ◌≤◌, ◌<◌, ℕ, zero, suc, ◌+◌, ◌-◌, ◌*◌, Bool, true, false, List, [], ◌∷◌, ◌++◌, length, take, drop, replicate, reverse, set, slice_set, slice_index, Option, Some, None, nat_eq, nat_lt, refl, sym, ap, ◌∙◌, subst, arith, length-set, length-append, length-take, length-drop, if◌then◌else◌}
+use Rattle.std.proofs.Common.{◌≡◌, ◌≤◌, ◌<◌, ℕ, zero, suc, ◌+◌, ◌-◌, ◌*◌, Bool, true, false, List, [], ◌∷◌, ◌++◌, length, take, drop, replicate, reverse, slice_set, slice_index, nat_eq, nat_lt, refl, sym, ap, ◌∙◌, subst, arith, length-set, length-append, length-take, length-drop, if◌then◌else◌}
 use Rattle.std.proofs.lemmas.Bool.Decides.{nat_tests}
 use Rattle.std.proofs.lemmas.List.{get_or-set_same, get_or-set_other, length-replicate, reverse-append}
 use Rattle.std.proofs.Math.Nat.{mul-le-mul_right, suc-mul}
 use Rattle.std.proofs.lemmas.Grind.{flat_map-append}
 use Rattle.kt_law.specs.Acts.{Act, Deed, Load, Store, Fold}
-use Rattle.kt_order.specs.Body.{Body, Stop, Do, Fork, Keeps}
+use Rattle.kt_order.specs.Body.{Stop, Do, Fork, Keeps}
 use Rattle.kt_order.specs.Machine.{Machine, Code}
 use Rattle.kt_order.specs.Sequential.{Run, Entry, alone, each, whole_within}
 use Rattle.kt_order.specs.Trace.{Operation, Acted, Forked, Ended, trace}
 use Rattle.kt_order.specs.Laws.{Acts}
-use Rattle.kt_prog.specs.Calls.{CallTree, Job, Whole, Index, main_call}
-use Rattle.kt_prog.specs.Script.{Fault, Script}
+use Rattle.kt_prog.specs.Calls.{CallTree, Job, Whole, Index}
+use Rattle.kt_prog.specs.Script.{Script}
 use Rattle.kt_prog.specs.Objects.{elements_of, first_element_of, inputs_of, width_of}
 use Rattle.kt_prog.specs.Bodies.{script_of}
 use Rattle.kt_prog.specs.Accepted.{IsAccepted}
 use Rattle.kt_prog.specs.Fits.{Fits, is_main, FitsJob}
-use Rattle.kt_prog.specs.Rights.{Directly, Forks, HandsOn}
+use Rattle.kt_prog.specs.Rights.{Directly, Forks}
 use Rattle.kt_prog.specs.Store.{place_of, effect, after, is_load}
 use Rattle.kt_prog.specs.Reference.{Placed, placed_fork, placed, main_placed, machine_of, opened_with, reference}
 use Rattle.kt_prog.specs.LastWriter.{operations_in, written, LoadsFindLastWritten}

@@ -1,10 +1,10 @@
 -- The operations of a body, in order.
-use Rattle.std.specs.Prelude.{◌≡◌, ℕ, zero, suc, List, [], ◌∷◌, ◌++◌, Bool, false, Option, Some, None, is_some, nat_lt, slice_get, if◌then◌else◌}
+use Rattle.std.specs.Prelude.{◌≡◌, ℕ, zero, suc, List, [], ◌∷◌, ◌++◌, Bool, false, Some, None, is_some, nat_lt, slice_get, if◌then◌else◌}
 use Rattle.kt_law.specs.Acts.{Deed, Load, Store, Fold}
 use Rattle.kt_law.specs.declared.limits.TheConstants.{DEFINITIONS}
 use Rattle.kt_order.specs.Body.{Stop, Do, Fork}
 use Rattle.kt_prog.specs.Calls.{Job, Whole, Index}
-use Rattle.kt_prog.specs.Script.{Fault, Script}
+use Rattle.kt_prog.specs.Script.{Script}
 use Rattle.kt_prog.specs.Bodies.{task_at, index_in, script_of}
 use Rattle.kt_prog.specs.declared.programs.Program.{Program}
 use Rattle.kt_prog.specs.declared.runs.Operation.{Operation}
