@@ -12,6 +12,7 @@ use Rattle.kt_prog.specs.declared.sight.Known.{Known}
 use Rattle.kt_prog.specs.Rules.{denied}
 use Rattle.kt_prog.specs.Declarations.{Counts, sort_rule, counted, param_rules}
 use Rattle.kt_prog.specs.Rights.{SomeOf}
+use Rattle.kt_prog.specs.Laws.{IsDirect}
 use Rattle.kt_prog.specs.Fits.{EachOf, GivenOne, AreGiven}
 use Rattle.kt_prog.specs.declared.scope.Local.{Local}
 use Rattle.kt_prog.specs.declared.programs.Param.{Param}
@@ -74,10 +75,6 @@ params_room in_loop before c (p ∷ params) h i o =
     let rest = params_room in_loop (before ++ known_param p ∷ []) (counted c p.sort) params (right_none (sorts ++ twice) more h) room.0 room.1 in
     let sums : (counted c p.sort).ints + (counted c p.sort).objects ≡ suc (c.ints + c.objects) = room.2 in
     omega (arith, rest, sums)
-
--- the accesses of a loop are direct
-abbrev pub IsDirect : Access → Type 0
-IsDirect a = is_postponed a.mode ≡ false
 
 direct_one : (c : Counts) (p : Param) (sort : Sort) (ints : List ℕ) (accesses : List Access) (Rest : List ℕ → List Access → Type 0)
     → sort_rule true c p sort ≡ []

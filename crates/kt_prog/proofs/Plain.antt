@@ -14,8 +14,9 @@ use Rattle.kt_prog.specs.Kernels.{kernel_body}
 use Rattle.kt_prog.specs.Scope.{Scope, known_param, known_index}
 use Rattle.kt_prog.specs.declared.sight.Known.{Known}
 use Rattle.kt_prog.specs.StatementRules.{block_rules, rules_of_stmt}
-use Rattle.kt_prog.specs.Declarations.{declared_in, names_twice, main_rules, family_rules, count_rules, param_rules}
+use Rattle.kt_prog.specs.Declarations.{no_params, declared_in, names_twice, main_rules, family_rules, count_rules, param_rules}
 use Rattle.kt_prog.specs.Accepted.{task_scope, main_scope, task_rules, mains_rules, broken, IsAccepted}
+use Rattle.kt_prog.specs.Laws.{IsDirect, LoopsAreDirect}
 use Rattle.kt_prog.specs.Rights.{SomeOf, Covers, Allowed, HandsOn, rights_at, rights_of, Directly, Forks}
 use Rattle.kt_prog.specs.Fits.{EachOf, Inside, FitsTarget, target_at, task_target, kernel_at, Fits, is_main, is_call, FitsJob}
 use Rattle.kt_prog.specs.declared.scope.Local.{Local}
@@ -30,7 +31,7 @@ use Rattle.kt_prog.proofs.Lists.{left_none, right_none}
 use Rattle.kt_prog.proofs.Matches.{FamiliesMatch, Agrees, Matches}
 use Rattle.kt_prog.proofs.Statements.{body_keeps, Ends}
 use Rattle.kt_prog.proofs.Targets.{few_tasks, target_is, task_of}
-use Rattle.kt_prog.proofs.Params.{params_given, params_room}
+use Rattle.kt_prog.proofs.Params.{params_given, params_room, params_direct}
 use Rattle.kt_prog.proofs.Families.{AllThere, all_there, limits_kept, families_found}
 use Rattle.kt_prog.proofs.Zeros.{zeros_all}
 use Rattle.kt_prog.proofs.Kernels.{kernel_good}
@@ -283,6 +284,37 @@ module _ (lost : Script → Script) (p : Program) (ok : Parts p) where
   unfolding script_with
   keeps job fits = (job_good job fits).keeps (λ _. Stop None) (λ x h. tt)
 
+  -- the accesses of the task or loop t, if it is a loop, are direct
+  loop_direct : (call : CallTree) (t : Task) (n i : ℕ) → RulesOf t → FitsTarget (objects_of p.families) call (target n t) → i < call.length
+      → EachOf IsDirect call.accesses
+  loop_direct call t n i r fits lt =
+      let loop = loop_index t.index call.length i lt fits.formed in
+      let rules = subst (λ (b : Bool). param_rules b (known_index t.index) no_params t.params ≡ []) (ap is_loop_of loop.1) r.params in
+      params_direct t.params (known_index t.index) no_params call.ints call.accesses rules fits.given
+
+  numbered_direct : (call : CallTree) (i k : ℕ) (t : Target) → target_at p.tasks (suc k) ≡ Some t → FitsTarget (objects_of p.families) call t
+      → i < call.length → EachOf IsDirect call.accesses
+  numbered_direct call i k t is fits lt = chosen (nat_lt k DEFINITIONS) (task_target p.tasks 1 k) (kernel_at (k - DEFINITIONS)) is
+      (λ f. let u = task_of p.tasks 1 k t f in
+      loop_direct call u.task (1 + k) i (rules_at p.tasks k u.task ok.tasks u.at) (subst (FitsTarget (objects_of p.families) call) u.is fits) lt)
+      (λ f. let none : call.length ≡ 0 = fits.formed (kernel_no_loop (k - DEFINITIONS) t f) in absurd (omega arith))
+    where
+      chosen : (b : Bool) (x y : Option Target) → (if b then x else y) ≡ Some t → (x ≡ Some t → EachOf IsDirect call.accesses)
+          → (y ≡ Some t → EachOf IsDirect call.accesses) → EachOf IsDirect call.accesses
+      chosen true x y h f g = f h
+      chosen false x y h f g = g h
+
+  indexes_direct : (call : CallTree) (i n : ℕ) → call.task ≡ n → Fits p call → i < call.length → EachOf IsDirect call.accesses
+  indexes_direct call i n e (is_main main) lt = let long : call.length ≡ 0 = ap (λ (c : CallTree). c.length) main in absurd (omega (arith, long, lt))
+  indexes_direct call i zero e (is_call t is f) lt = absurd (no_target (subst (λ (n : ℕ). target_at p.tasks n ≡ Some t) e is))
+    where
+      no_target : target_at p.tasks 0 ≡ Some t → ⊥
+      no_target h = cc
+  indexes_direct call i (suc k) e (is_call t is f) lt = numbered_direct call i k t (subst (λ (n : ℕ). target_at p.tasks n ≡ Some t) e is) f lt
+
+  pub loops_direct : (call : CallTree) (i : ℕ) → FitsJob p (Index call i) → EachOf IsDirect call.accesses
+  loops_direct call i fits = indexes_direct call i call.task refl fits.0 fits.1
+
 -- The law: whatever is done where a rule was broken, the bodies of an accepted program keep to the rights of their calls.
 -- So at no place a rule was broken, since what is done there might be an act that no right lets a body do.
 pub plain : (lost : Script → Script) (p : Program) → IsAccepted p → (job : Job) → FitsJob p job
@@ -291,3 +323,7 @@ plain lost p h = keeps lost p (parts p h)
 
 pub few_objects : (p : Program) → IsAccepted p → (objects_of p.families ≤ OBJECTS) × (elements_of p.families ≤ ELEMENTS)
 few_objects p h = (parts p h).small
+
+-- a loop that has an index has direct modes alone
+pub loops_are_direct : LoopsAreDirect
+loops_are_direct p h call i fits = loops_direct (λ w. w) p (parts p h) call i fits
