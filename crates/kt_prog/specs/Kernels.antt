@@ -74,10 +74,10 @@ module _ (families : List Family) where
   abbrev pub kernel_body : ℕ → List ℕ → List Access → Step (Unit {0})
   kernel_body zero ints accesses =
       product mul_of (Fold Add) (slice_index ints 0) (slice_index ints 1) (slice_index ints 2)
-          (object_at accesses 0) (object_at accesses 1) (object_at accesses 2)
+      (object_at accesses 0) (object_at accesses 1) (object_at accesses 2)
   kernel_body (suc zero) ints accesses =
       product minplus_of (Fold Min) (slice_index ints 0) (slice_index ints 1) (slice_index ints 2)
-          (object_at accesses 0) (object_at accesses 1) (object_at accesses 2)
+      (object_at accesses 0) (object_at accesses 1) (object_at accesses 2)
   kernel_body (suc (suc zero)) ints accesses =
       stencil_body (slice_index ints 0) (object_at accesses 0) (object_at accesses 1) (object_at accesses 2) (object_at accesses 3)
   kernel_body (suc (suc (suc k))) ints accesses =

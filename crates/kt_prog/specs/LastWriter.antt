@@ -29,6 +29,6 @@ abbrev pub LoadsFindLastWritten : Type 0
 LoadsFindLastWritten = (p : Program) → IsAccepted p → (input : List ℕ) → length input ≡ inputs_of p.families
     → (before after : List (Operation (machine_of p))) (object element value : ℕ)
     → operations_in p (reference p input).entries
-        ≡ before ++ Acted (record { object = object; element = element; deed = Load }) value ∷ after
+    ≡ before ++ Acted (record { object = object; element = element; deed = Load }) value ∷ after
     → let e = first_element_of p.families object + element in
-        value ≡ written p e (slice_index (opened_with p.families input) e) (reverse before)
+    value ≡ written p e (slice_index (opened_with p.families input) e) (reverse before)
