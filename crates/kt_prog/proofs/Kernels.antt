@@ -70,7 +70,8 @@ module _ (families : List Family) (rights : List Access) (H : Job → Type 0) wh
   performs_good mode f o from (x ∷ xs) l h le =
       let room : from + suc (length xs) ≤ width_of families o = le in
       let below : from < width_of families o = omega arith in
-      good_then _ H Nothing Nothing _ _ (good_perform _ H o from (f x) (may mode o from (f x) (l x) below h)) (λ _ _. performs_good mode f o (suc from) xs l h (omega arith))
+      good_then _ H Nothing Nothing _ _ (good_perform _ H o from (f x) (may mode o from (f x) (l x) below h))
+      (λ _ _. performs_good mode f o (suc from) xs l h (omega arith))
 
   has_room : (o n : ℕ) → has families o n ≡ true → 0 + n ≤ width_of families o
   has_room o n h = let le : nat_le n (width_of families o) ≡ true = h in grind (arith, nat_tests)
@@ -144,14 +145,22 @@ own_first a mode m e = (omega arith, omega (arith, e), m)
 products : (m : Mode) (ints : List ℕ) (accesses : List Access)
     → AreGiven (S.Int ∷ S.Int ∷ S.Int ∷ S.One R ∷ S.One R ∷ S.One m ∷ []) ints accesses
     → HasOf accesses R (object_at accesses 0) × HasOf accesses R (object_at accesses 1) × HasOf accesses m (object_at accesses 2)
-products m (n ∷ p ∷ q ∷ ints) (a ∷ b ∷ c ∷ more) h = (inl (own_first a R h.0 h.1), inr (inl (own_first b R h.2.0 h.2.1)), inr (inr (inl (own_first c m h.2.2.0 h.2.2.1))))
+products m (n ∷ p ∷ q ∷ ints) (a ∷ b ∷ c ∷ more) h =
+    (inl (own_first a R h.0 h.1), inr (inl (own_first b R h.2.0 h.2.1)), inr (inr (inl (own_first c m h.2.2.0 h.2.2.1))))
 products m (n ∷ p ∷ q ∷ ints) (a ∷ []) h = absurd h.2
 products m (n ∷ p ∷ q ∷ ints) (a ∷ b ∷ []) h = absurd h.2.2
 products m ints accesses h = absurd h
 
 stencils : (ints : List ℕ) (accesses : List Access) → AreGiven (S.Int ∷ S.One R ∷ S.One R ∷ S.One R ∷ S.One W ∷ []) ints accesses
-    → HasOf accesses R (object_at accesses 0) × HasOf accesses R (object_at accesses 1) × HasOf accesses R (object_at accesses 2) × HasOf accesses W (object_at accesses 3)
-stencils (n ∷ ints) (a ∷ b ∷ c ∷ d ∷ more) h = (inl (own_first a R h.0 h.1), inr (inl (own_first b R h.2.0 h.2.1)), inr (inr (inl (own_first c R h.2.2.0 h.2.2.1))), inr (inr (inr (inl (own_first d W h.2.2.2.0 h.2.2.2.1)))))
+    → HasOf accesses R (object_at accesses 0) × HasOf accesses R (object_at accesses 1) × HasOf accesses R
+    (object_at accesses 2) × HasOf accesses W (object_at accesses 3)
+stencils (n ∷ ints) (a ∷ b ∷ c ∷ d ∷ more) h = (
+  inl (own_first a R h.0 h.1),
+  inr (inl (own_first b R h.2.0 h.2.1)),
+  inr (inr (inl (own_first c R h.2.2.0 h.2.2.1))),
+  inr
+      (inr (inr (inl (own_first d W h.2.2.2.0 h.2.2.2.1)))),
+)
 stencils (n ∷ ints) (a ∷ []) h = absurd h.2
 stencils (n ∷ ints) (a ∷ b ∷ []) h = absurd h.2.2
 stencils (n ∷ ints) (a ∷ b ∷ c ∷ []) h = absurd h.2.2.2
@@ -172,10 +181,12 @@ module _ (families : List Family) (H : Job → Type 0) where
       → Good (Allowed families accesses None) H (λ _. Unit {0}) (kernel_body families k ints accesses)
   kernel_good zero ints accesses t is given =
       let r = products (Cw Add) ints accesses (subst (λ (y : Target). AreGiven y.sorts ints accesses) (sym (some_is is)) given) in
-      product_good families accesses H mul_of (Fold Add) (Cw Add) (slice_index ints 0) (slice_index ints 1) (slice_index ints 2) _ _ _ (length-mul (slice_index ints 0) (slice_index ints 1) (slice_index ints 2)) (λ x. refl) r.0 r.1 r.2
+      product_good families accesses H mul_of (Fold Add) (Cw Add) (slice_index ints 0) (slice_index ints 1) (slice_index ints 2) _ _ _
+      (length-mul (slice_index ints 0) (slice_index ints 1) (slice_index ints 2)) (λ x. refl) r.0 r.1 r.2
   kernel_good (suc zero) ints accesses t is given =
       let r = products (Cw Min) ints accesses (subst (λ (y : Target). AreGiven y.sorts ints accesses) (sym (some_is is)) given) in
-      product_good families accesses H minplus_of (Fold Min) (Cw Min) (slice_index ints 0) (slice_index ints 1) (slice_index ints 2) _ _ _ (length-minplus (slice_index ints 0) (slice_index ints 1) (slice_index ints 2)) (λ x. refl) r.0 r.1 r.2
+      product_good families accesses H minplus_of (Fold Min) (Cw Min) (slice_index ints 0) (slice_index ints 1) (slice_index ints 2) _ _ _
+      (length-minplus (slice_index ints 0) (slice_index ints 1) (slice_index ints 2)) (λ x. refl) r.0 r.1 r.2
   kernel_good (suc (suc zero)) ints accesses t is given =
       let r = stencils ints accesses (subst (λ (y : Target). AreGiven y.sorts ints accesses) (sym (some_is is)) given) in
       stencil_good families accesses H (slice_index ints 0) _ _ _ _ r.0 r.1 r.2 r.3

@@ -39,7 +39,8 @@ place_below (f ∷ families) object element lt =
   where
     family_below : (b : Bool) → nat_lt object f.members ≡ b → element < (if b then f.elements else width_of families (object - f.members))
         → (element < width_of families (object - f.members) → first_element_of families (object - f.members) + element < elements_of families)
-        → (if b then object * f.elements else f.members * f.elements + first_element_of families (object - f.members)) + element < f.members * f.elements + elements_of families
+        → (if b then object * f.elements else f.members * f.elements + first_element_of families
+        (object - f.members)) + element < f.members * f.elements + elements_of families
     family_below true is h more =
         let inside : object < f.members = grind (arith, nat_tests) in
         omega (arith, member_below object element f.members f.elements inside h)
@@ -125,8 +126,12 @@ module _ (p : Program) where
       let at = first_element_of p.families o + e in
       (subst (λ n. at < n) (sym full) there, λ h. cc, next 0 (slice_set s at v) (length-set s at v ∙ full))
   act_leads o e (Fold op v) k s full there next =
-      let at = first_element_of p.families o + e in
-      (subst (λ n. at < n) (sym full) there, λ h. cc, next 0 (slice_set s at (effect (Fold op v) (slice_index s at))) (length-set s at (effect (Fold op v) (slice_index s at)) ∙ full))
+      let at = first_element_of p.families o + e in (
+        subst (λ n. at < n) (sym full) there,
+        λ h. cc,
+        next 0 (slice_set s at (effect (Fold op v) (slice_index s at)))
+            (length-set s at (effect (Fold op v) (slice_index s at)) ∙ full),
+      )
 
   body_leads : (w : Code m) (s : List ℕ) → Full s → Acts m There w → Leads s (done w s) (alone m w s).store
   body_leads (Stop f) s full acts = refl
@@ -184,7 +189,8 @@ module _ (p : Program) where
         let first = all c s fits.0 full in
         let full' = leads_length (operations_in p x.entries) s x.store first ∙ full in
         rw (flat_map-append (λ (e : Entry m). trace m (m.tree e.call) e.answers) x.entries (each m f cs x.store).entries)
-        (leads_append (operations_in p x.entries) (operations_in p (each m f cs x.store).entries) s x.store (each m f cs x.store).store first (each_leads f all job cs fits.1 x.store full'))
+        (leads_append (operations_in p x.entries) (operations_in p (each m f cs x.store).entries) s x.store
+        (each m f cs x.store).store first (each_leads f all job cs fits.1 x.store full'))
 
     whole_leads : (n : ℕ) → LeadsAll (whole_within m n)
     whole_leads zero c s fits full =
@@ -196,7 +202,8 @@ module _ (p : Program) where
         let more = forks_fit c.job c.path 1 (script_of p c.job) s (kept c.job fits) (λ child h. child_fits c.job child fits h) in
         let full' = leads_length (done (m.tree c) s) s a.store first ∙ full in
         let x = each m (whole_within m n) a.forks a.store in
-        leads_append (done (m.tree c) s) (operations_in p x.entries) s a.store x.store first (each_leads (whole_within m n) (whole_leads n) c.job a.forks more a.store full')
+        leads_append (done (m.tree c) s) (operations_in p x.entries) s a.store x.store first
+        (each_leads (whole_within m n) (whole_leads n) c.job a.forks more a.store full')
 
   -- what one operation makes of an element
   abbrev changed : ℕ → Operation m → ℕ → ℕ

@@ -26,7 +26,8 @@ module _ (site : Site) (rights : List Access) (own : Option ℕ) where
   abbrev pub Among : List Access → Type 1
   Among accesses = (P : Access → Type 0) → SomeOf P accesses → SomeOf P rights
 
-  one_given : (name : List ℕ) (sort : Sort) (ints : List ℕ) (accesses : List Access) (Rest : List ℕ → List Access → Type 0) (names : List Known) (more : List ℕ → List Access → List Local)
+  one_given : (name : List ℕ) (sort : Sort) (ints : List ℕ) (accesses : List Access) (Rest : List ℕ → List Access → Type 0)
+      (names : List Known) (more : List ℕ → List Access → List Local)
       → Among accesses
       → ((ints' : List ℕ) (accesses' : List Access) → Among accesses' → Rest ints' accesses' → Matches site rights own names (more ints' accesses'))
       → GivenOne sort ints accesses Rest
@@ -46,7 +47,8 @@ module _ (site : Site) (rights : List Access) (own : Option ℕ) where
       → Matches site rights own (map known_param params) (given params ints accesses)
   params_given [] ints accesses among h = tt
   params_given (p ∷ params) ints accesses among h =
-      one_given p.name p.sort ints accesses (AreGiven (map (λ (q : Param). q.sort) params)) (map known_param params) (given params) among (λ ints' accesses' among' r. params_given params ints' accesses' among' r) h
+      one_given p.name p.sort ints accesses (AreGiven (map (λ (q : Param). q.sort) params)) (map known_param params) (given params) among
+      (λ ints' accesses' among' r. params_given params ints' accesses' among' r) h
 
 -- at most 8 ints and 8 objects
 sort_room : (in_loop : Bool) (c : Counts) (p : Param) (sort : Sort) → sort_rule in_loop c p sort ≡ [] → c.ints ≤ INTS → c.objects ≤ ACCESSES
@@ -56,11 +58,13 @@ sort_room in_loop c p S.Int h i o =
     let less : suc c.ints ≤ INTS = grind (arith, nat_tests) in
     (less, o, omega arith)
 sort_room in_loop c p (S.One mode) h i o =
-    let few : nat_eq c.objects ACCESSES ≡ false = not_denied p.name_place P12 (nat_eq c.objects ACCESSES) (right_none (denied p.place P11 _) (denied p.name_place P12 (nat_eq c.objects ACCESSES)) h) in
+    let few : nat_eq c.objects ACCESSES ≡ false = not_denied p.name_place P12 (nat_eq c.objects ACCESSES)
+    (right_none (denied p.place P11 _) (denied p.name_place P12 (nat_eq c.objects ACCESSES)) h) in
     let less : suc c.objects ≤ ACCESSES = grind (arith, nat_tests) in
     (i, less, omega arith)
 sort_room in_loop c p (S.Many mode) h i o =
-    let few : nat_eq c.objects ACCESSES ≡ false = not_denied p.name_place P12 (nat_eq c.objects ACCESSES) (right_none (denied p.place P11 _) (denied p.name_place P12 (nat_eq c.objects ACCESSES)) h) in
+    let few : nat_eq c.objects ACCESSES ≡ false = not_denied p.name_place P12 (nat_eq c.objects ACCESSES)
+    (right_none (denied p.place P11 _) (denied p.name_place P12 (nat_eq c.objects ACCESSES)) h) in
     let less : suc c.objects ≤ ACCESSES = grind (arith, nat_tests) in
     (i, less, omega arith)
 
@@ -84,11 +88,13 @@ direct_one c p S.Int [] accesses Rest h each g = absurd g
 direct_one c p S.Int (n ∷ ints) accesses Rest h each g = each ints accesses g
 direct_one c p (S.One mode) ints [] Rest h each g = absurd g
 direct_one c p (S.One mode) ints (a ∷ accesses) Rest h each g =
-    let direct : is_postponed mode ≡ false = not_denied p.place P11 (is_postponed mode) (left_none (denied p.place P11 (is_postponed mode)) (denied p.name_place P12 (nat_eq c.objects ACCESSES)) h) in
+    let direct : is_postponed mode ≡ false = not_denied p.place P11 (is_postponed mode)
+    (left_none (denied p.place P11 (is_postponed mode)) (denied p.name_place P12 (nat_eq c.objects ACCESSES)) h) in
     (subst (λ (m : Mode). is_postponed m ≡ false) (sym g.0) direct, each ints accesses g.2)
 direct_one c p (S.Many mode) ints [] Rest h each g = absurd g
 direct_one c p (S.Many mode) ints (a ∷ accesses) Rest h each g =
-    let direct : is_postponed mode ≡ false = not_denied p.place P11 (is_postponed mode) (left_none (denied p.place P11 (is_postponed mode)) (denied p.name_place P12 (nat_eq c.objects ACCESSES)) h) in
+    let direct : is_postponed mode ≡ false = not_denied p.place P11 (is_postponed mode)
+    (left_none (denied p.place P11 (is_postponed mode)) (denied p.name_place P12 (nat_eq c.objects ACCESSES)) h) in
     (subst (λ (m : Mode). is_postponed m ≡ false) (sym g.0) direct, each ints accesses g.2)
 
 pub params_direct : (params : List Param) (before : List Known) (c : Counts) (ints : List ℕ) (accesses : List Access)

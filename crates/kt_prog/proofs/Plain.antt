@@ -83,7 +83,12 @@ module _ (lost : Script → Script) (p : Program) (ok : Parts p) where
       → FitsTarget (objects_of p.families) call t → call.depth ≡ suc depth → EachOf (λ b. SomeOf (Covers b) rights) call.accesses
       → H (Whole call)
   handed rights depth own H on none name t is call fits deeper covered =
-      on call none (record { fits = is_call t (subst (λ (n : ℕ). target_at p.tasks n ≡ Some t) (sym fits.number) (target_is p.tasks name t ok.few is)) fits; deeper = deeper; covered = covered })
+      on call none (record {
+        fits = is_call t (subst (λ (n : ℕ). target_at p.tasks n ≡ Some t) (sym fits.number)
+            (target_is p.tasks name t ok.few is)) fits;
+        deeper = deeper;
+        covered = covered;
+      })
 
   -- the rules of one task
   pub record RulesOf (t : Task) : Type 0 where
@@ -108,13 +113,17 @@ module _ (lost : Script → Script) (p : Program) (ok : Parts p) where
   length-known (q ∷ params) = ap suc (length-known params)
 
   -- statements of a task or of an index
-  module _ (rights : List Access) (depth : ℕ) (own : Option ℕ) (H : Job → Type 0) (on : (call : CallTree) → own ≡ None → HandsOn p rights depth call → H (Whole call)) (room : EachOf (Inside (objects_of p.families)) rights) where
-    statements_good : (in_main : Bool) (fam : in_main ≡ true → FamiliesMatch (site_of p in_main depth) rights own) (s : Scope) (locals : List Local) (body : List Stmt)
+  module _ (rights : List Access) (depth : ℕ) (own : Option ℕ) (H : Job → Type 0)
+      (on : (call : CallTree) → own ≡ None → HandsOn p rights depth call → H (Whole call))
+      (room : EachOf (Inside (objects_of p.families)) rights) where
+    statements_good : (in_main : Bool) (fam : in_main ≡ true → FamiliesMatch (site_of p in_main depth) rights own) (s : Scope)
+        (locals : List Local) (body : List Stmt)
         → Agrees (site_of p in_main depth) rights own s locals → block_rules (map rules_of_stmt body) s ≡ []
         → Good (Allowed p.families rights own) H Nothing (statements lost (site_of p in_main depth) locals body)
     statements_good in_main fam s locals body a h =
         good_then _ H (Ends lost (site_of p in_main depth) rights own H fam (objects_of p.families) room (handed rights depth own H on) s) Nothing _ _
-        (body_keeps lost (site_of p in_main depth) rights own H fam (objects_of p.families) room (handed rights depth own H on) body s (record { locals = locals; steps = STEPS }) a h)
+        (body_keeps lost (site_of p in_main depth) rights own H fam (objects_of p.families) room (handed rights depth own H on) body s
+        (record { locals = locals; steps = STEPS }) a h)
         (λ st e. good_give _ H Nothing tt tt)
 
   pub task_good : (call : CallTree) (t : Task) (n : ℕ) (H : Job → Type 0) → RulesOf t → t.index ≡ None
@@ -129,7 +138,8 @@ module _ (lost : Script → Script) (p : Program) (ok : Parts p) where
       let start = known_index t.index ++ map known_param t.params in
       let same : start ≡ map known_param t.params = ap (λ (i : Option I.Index). known_index i ++ map known_param t.params) none in
       let room : length (map known_param t.params) ≤ 1 + INTS + ACCESSES + 0 = omega (arith, few, count) in
-      statements_good call.accesses call.depth None H (λ child _ h. on child h) fits.inside false (λ e. cc) (task_scope p t) (given t.params call.ints call.accesses) t.body
+      statements_good call.accesses call.depth None H (λ child _ h. on child h) fits.inside false (λ e. cc) (task_scope p t)
+      (given t.params call.ints call.accesses) t.body
       (record {
         families = refl;
         tasks = refl;
@@ -155,7 +165,8 @@ module _ (lost : Script → Script) (p : Program) (ok : Parts p) where
       let names = params_given site call.accesses (Some i) t.params call.ints call.accesses (λ P x. x) fits.given in
       let start = given t.params call.ints call.accesses in
       let locals = with_index t.index i start in
-      let begun : Matches site call.accesses (Some i) (known_index (Some loop.0) ++ map known_param t.params) (with_index (Some loop.0) i start) = (refl, refl, names) in
+      let begun : Matches site call.accesses (Some i) (known_index (Some loop.0) ++ map known_param t.params)
+      (with_index (Some loop.0) i start) = (refl, refl, names) in
       let room : suc (length (map known_param t.params)) ≤ 1 + INTS + ACCESSES + 0 = omega (arith, few, count) in
       statements_good call.accesses call.depth (Some i) H (λ child none h. cc) fits.inside false (λ e. cc) (task_scope p t) locals t.body
       (record {
@@ -163,7 +174,8 @@ module _ (lost : Script → Script) (p : Program) (ok : Parts p) where
         tasks = refl;
         in_main = refl;
         loop = ap is_loop_of loop.1;
-        names = subst (λ (x : Option I.Index). Matches site call.accesses (Some i) (known_index x ++ map known_param t.params) (with_index x i start)) (sym loop.1) begun;
+        names = subst (λ (x : Option I.Index). Matches site call.accesses (Some i) (known_index x ++ map known_param t.params)
+            (with_index x i start)) (sym loop.1) begun;
         room = subst (λ (x : Option I.Index). length (known_index x ++ map known_param t.params) ≤ 1 + INTS + ACCESSES + 0) (sym loop.1) room;
       }) r.body
 
@@ -183,7 +195,8 @@ module _ (lost : Script → Script) (p : Program) (ok : Parts p) where
   indexes_good call D i zero le = good_give D (Forks p (Whole call)) Nothing tt tt
   indexes_good call D i (suc n) le =
       let lt : i < call.length = omega arith in
-      good_then D (Forks p (Whole call)) Nothing Nothing _ _ (good_fork D (Forks p (Whole call)) (Index call i) (refl, lt)) (λ _ _. indexes_good call D (suc i) n (omega arith))
+      good_then D (Forks p (Whole call)) Nothing Nothing _ _ (good_fork D (Forks p (Whole call)) (Index call i) (refl, lt))
+      (λ _ _. indexes_good call D (suc i) n (omega arith))
 
   -- a call of the task or loop t
   body_good : (call : CallTree) (t : Task) (n : ℕ) (x : Option I.Index) → t.index ≡ x → RulesOf t
@@ -198,14 +211,20 @@ module _ (lost : Script → Script) (p : Program) (ok : Parts p) where
       → Good (Allowed p.families call.accesses None) (Forks p (Whole call)) Nothing (call_body lost p call (suc k))
   numbered_good call k t e is fits = chosen (nat_lt k DEFINITIONS) (task_target p.tasks 1 k) (kernel_at (k - DEFINITIONS)) is
       (λ f. let u = task_of p.tasks 1 k t f in
-      subst (λ (y : Option Task). Good (Allowed p.families call.accesses None) (Forks p (Whole call)) Nothing (task_or_loop lost p call y (index_in y))) (sym u.at)
-      (body_good call u.task (1 + k) u.task.index refl (rules_at p.tasks k u.task ok.tasks u.at) (subst (λ (y : Target). FitsTarget (objects_of p.families) call y) u.is fits) (ap (rights_at (objects_of p.families) call.accesses) e)))
+      subst (λ (y : Option Task). Good (Allowed p.families call.accesses None) (Forks p (Whole call)) Nothing
+      (task_or_loop lost p call y (index_in y))) (sym u.at)
+      (body_good call u.task (1 + k) u.task.index refl (rules_at p.tasks k u.task ok.tasks u.at)
+      (subst (λ (y : Target). FitsTarget (objects_of p.families) call y) u.is fits) (ap (rights_at (objects_of p.families) call.accesses) e)))
       (λ f. kernel_good p.families (Forks p (Whole call)) (k - DEFINITIONS) call.ints call.accesses t f fits.given)
     where
       chosen : (b : Bool) (x y : Option Target) → (if b then x else y) ≡ Some t
-          → (x ≡ Some t → Good (Allowed p.families call.accesses None) (Forks p (Whole call)) Nothing (task_or_loop lost p call (task_at p.tasks k) (index_in (task_at p.tasks k))))
-          → (y ≡ Some t → Good (Allowed p.families call.accesses None) (Forks p (Whole call)) Nothing (kernel_body p.families (k - DEFINITIONS) call.ints call.accesses))
-          → Good (Allowed p.families call.accesses None) (Forks p (Whole call)) Nothing (if b then task_or_loop lost p call (task_at p.tasks k) (index_in (task_at p.tasks k)) else kernel_body p.families (k - DEFINITIONS) call.ints call.accesses)
+          → (x ≡ Some t → Good (Allowed p.families call.accesses None) (Forks p (Whole call)) Nothing
+          (task_or_loop lost p call (task_at p.tasks k) (index_in (task_at p.tasks k))))
+          → (y ≡ Some t → Good (Allowed p.families call.accesses None) (Forks p (Whole call)) Nothing
+          (kernel_body p.families (k - DEFINITIONS) call.ints call.accesses))
+          → Good (Allowed p.families call.accesses None) (Forks p (Whole call)) Nothing
+          (if b then task_or_loop lost p call (task_at p.tasks k) (index_in (task_at p.tasks k)) else kernel_body p.families
+          (k - DEFINITIONS) call.ints call.accesses)
       chosen true x y h f g = f h
       chosen false x y h f g = g h
 
@@ -216,14 +235,17 @@ module _ (lost : Script → Script) (p : Program) (ok : Parts p) where
       let deep : call.depth ≡ 0 = ap (λ (c : CallTree). c.depth) main in
       let same : rights_of p call ≡ rights_at (objects_of p.families) [] 0 = ap (rights_at (objects_of p.families) call.accesses) e in
       subst (λ (rights : List Access). Good (Allowed p.families rights None) (Forks p (Whole call)) Nothing (main_body lost p p.mains)) (sym same)
-      (main_good p.mains (Forks p (Whole call)) ok.main ok.mains (λ child h. subst (λ (rights : List Access). HandsOn p rights call.depth child) (sym same) (subst (λ (d : ℕ). HandsOn p (rights_at (objects_of p.families) [] 0) d child) (sym deep) h)))
+      (main_good p.mains (Forks p (Whole call)) ok.main ok.mains
+      (λ child h. subst (λ (rights : List Access). HandsOn p rights call.depth child) (sym same)
+      (subst (λ (d : ℕ). HandsOn p (rights_at (objects_of p.families) [] 0) d child) (sym deep) h)))
   after_good call zero e (is_call t is fits) = absurd (no_target (subst (λ (n : ℕ). target_at p.tasks n ≡ Some t) e is))
     where
       no_target : target_at p.tasks 0 ≡ Some t → ⊥
       no_target h = cc
   after_good call (suc k) e (is_main main) = let task : call.task ≡ 0 = ap (λ (c : CallTree). c.task) main in absurd (omega (arith, e, task))
   after_good call (suc k) e (is_call t is fits) =
-      subst (λ (rights : List Access). Good (Allowed p.families rights None) (Forks p (Whole call)) Nothing (call_body lost p call (suc k))) (sym (ap (rights_at (objects_of p.families) call.accesses) e))
+      subst (λ (rights : List Access). Good (Allowed p.families rights None) (Forks p (Whole call)) Nothing (call_body lost p call (suc k)))
+      (sym (ap (rights_at (objects_of p.families) call.accesses) e))
       (numbered_good call k t e (subst (λ (n : ℕ). target_at p.tasks n ≡ Some t) e is) fits)
 
   -- the accesses of a call are among its rights
@@ -249,7 +271,8 @@ module _ (lost : Script → Script) (p : Program) (ok : Parts p) where
   indexed_good call i k t is fits lt = chosen (nat_lt k DEFINITIONS) (task_target p.tasks 1 k) (kernel_at (k - DEFINITIONS)) is
       (λ f. let u = task_of p.tasks 1 k t f in
       subst (λ (y : Option Task). Good (Allowed p.families call.accesses (Some i)) (Forks p (Index call i)) Nothing (index_body lost p call i y)) (sym u.at)
-      (index_good call u.task (1 + k) i (Forks p (Index call i)) (rules_at p.tasks k u.task ok.tasks u.at) (subst (λ (y : Target). FitsTarget (objects_of p.families) call y) u.is fits) lt))
+      (index_good call u.task (1 + k) i (Forks p (Index call i)) (rules_at p.tasks k u.task ok.tasks u.at)
+      (subst (λ (y : Target). FitsTarget (objects_of p.families) call y) u.is fits) lt))
       (λ f. let none : call.length ≡ 0 = fits.formed (kernel_no_loop (k - DEFINITIONS) t f) in absurd (omega arith))
     where
       chosen : (b : Bool) (x y : Option Target) → (if b then x else y) ≡ Some t
@@ -268,8 +291,10 @@ module _ (lost : Script → Script) (p : Program) (ok : Parts p) where
       no_target h = cc
   of_index_good call i (suc k) e (is_call t is f) lt =
       let less : call.task - 1 ≡ k = omega (arith, e) in
-      subst (λ (rights : List Access). Good (Allowed p.families rights (Some i)) (Forks p (Index call i)) Nothing (index_body lost p call i (task_at p.tasks (call.task - 1)))) (sym (ap (rights_at (objects_of p.families) call.accesses) e))
-      (subst (λ (m : ℕ). Good (Allowed p.families call.accesses (Some i)) (Forks p (Index call i)) Nothing (index_body lost p call i (task_at p.tasks m))) (sym less)
+      subst (λ (rights : List Access). Good (Allowed p.families rights (Some i)) (Forks p (Index call i)) Nothing
+      (index_body lost p call i (task_at p.tasks (call.task - 1)))) (sym (ap (rights_at (objects_of p.families) call.accesses) e))
+      (subst (λ (m : ℕ). Good (Allowed p.families call.accesses (Some i)) (Forks p (Index call i)) Nothing
+      (index_body lost p call i (task_at p.tasks m))) (sym less)
       (indexed_good call i k t (subst (λ (n : ℕ). target_at p.tasks n ≡ Some t) e is) f lt))
 
   job_good : (job : Job) → FitsJob p job → Good (Directly p job) (Forks p job) Nothing (job_body lost p job)

@@ -60,7 +60,8 @@ module _ (site : Site) (rights : List Access) (own : Option ℕ) where
   pub room_left : (s : Scope) (locals : List Local) (name : List ℕ) (place : Place) → Agree s locals → new_name s name place ≡ []
       → nat_lt (length locals) NAMES ≡ true
   room_left s locals name place a h =
-      let few : nat_lt LOCALS (s.lets + 1) ≡ false = not_denied place P12 (nat_lt LOCALS (s.lets + 1)) (right_none (denied place P5 (is_some (kind_of s name))) (denied place P12 (nat_lt LOCALS (s.lets + 1))) h) in
+      let few : nat_lt LOCALS (s.lets + 1) ≡ false = not_denied place P12 (nat_lt LOCALS (s.lets + 1))
+      (right_none (denied place P5 (is_some (kind_of s name))) (denied place P12 (nat_lt LOCALS (s.lets + 1))) h) in
       let less : s.lets < LOCALS = grind (arith, nat_tests) in
       let room : length s.names ≤ 1 + INTS + ACCESSES + s.lets = a.room in
       let same = same_length site rights own s.names locals a.names in
@@ -78,7 +79,8 @@ module _ (site : Site) (rights : List Access) (own : Option ℕ) where
         tasks = a.tasks;
         in_main = a.in_main;
         loop = a.loop;
-        names = matches_snoc site rights own s.names locals (record { name = name; kind = kind }) (record { name = name; bound = B.Number n }) a.names refl suits;
+        names = matches_snoc site rights own s.names locals (record { name = name; kind = kind })
+            (record { name = name; bound = B.Number n }) a.names refl suits;
         room = omega (arith, longer, room);
       }
 
@@ -152,7 +154,8 @@ module _ (site : Site) (rights : List Access) (own : Option ℕ) where
   -- the local that is set is there
   pub set_there : (s : Scope) (locals : List Local) (name : List ℕ) (place : Place) → Agree s locals → set_rule (kind_of s name) place ≡ []
       → is_some (local_of locals name) ≡ true
-  set_there s locals name place a h = there (known_of s.names name) (local_of locals name) (local_found site rights own s.names locals name a.names) (is_let s name place h)
+  set_there s locals name place a h = there (known_of s.names name) (local_of locals name)
+      (local_found site rights own s.names locals name a.names) (is_let s name place h)
 
   pub agrees_set : (s : Scope) (locals : List Local) (name : List ℕ) (place : Place) (n : ℕ) → Agree s locals
       → set_rule (kind_of s name) place ≡ [] → Agree s (assign locals name n)

@@ -34,7 +34,8 @@ pub record Numbered (tasks : List Task) (first : ℕ) (t : Target) : Type 0 wher
 
 task_is : (tasks : List Task) (first : ℕ) (name : List ℕ) (t : Target) → task_named first tasks name ≡ Some t → Numbered tasks first t
 task_is [] first name t h = cc
-task_is (u ∷ tasks) first name t h = named (bytes_eq u.name name) u tasks first (task_named (suc first) tasks name) t (λ e. task_is tasks (suc first) name t e) h
+task_is (u ∷ tasks) first name t h = named (bytes_eq u.name name) u tasks first (task_named (suc first) tasks name) t
+    (λ e. task_is tasks (suc first) name t e) h
   where
     named : (b : Bool) (u : Task) (tasks : List Task) (first : ℕ) (x : Option Target) (t : Target)
         → (x ≡ Some t → Numbered tasks (suc first) t) → (if b then Some (target first u) else x) ≡ Some t → Numbered (u ∷ tasks) first t
@@ -51,7 +52,8 @@ pub few_tasks : (tasks : List Task) (before : ℕ) → count_rules before tasks 
     → before + length tasks ≤ DEFINITIONS
 few_tasks [] before h le = omega arith
 few_tasks (t ∷ tasks) before h le =
-    let few : nat_eq before DEFINITIONS ≡ false = not_denied t.place P12 (nat_eq before DEFINITIONS) (left_none (denied t.place P12 (nat_eq before DEFINITIONS)) (count_rules (suc before) tasks) h) in
+    let few : nat_eq before DEFINITIONS ≡ false = not_denied t.place P12 (nat_eq before DEFINITIONS)
+    (left_none (denied t.place P12 (nat_eq before DEFINITIONS)) (count_rules (suc before) tasks) h) in
     let less : suc before ≤ DEFINITIONS = grind (arith, nat_tests) in
     omega (arith, few_tasks tasks (suc before) (right_none (denied t.place P12 (nat_eq before DEFINITIONS)) (count_rules (suc before) tasks) h) less)
 
@@ -65,7 +67,9 @@ named_at tasks t few n =
 pub target_is : (tasks : List Task) (name : List ℕ) (t : Target) → length tasks ≤ DEFINITIONS → target_of tasks name ≡ Some t
     → target_at tasks t.number ≡ Some t
 target_is tasks name t few h =
-    either (kernel_named name) (task_named 1 tasks name) (λ e. kernel_is tasks (bytes_eq (codes "k_mul") name) (bytes_eq (codes "k_minplus") name) (bytes_eq (codes "k_stencil") name) (bytes_eq (codes "k_scan") name) t e)
+    either (kernel_named name) (task_named 1 tasks name)
+    (λ e. kernel_is tasks (bytes_eq (codes "k_mul") name) (bytes_eq (codes "k_minplus") name) (bytes_eq (codes "k_stencil") name)
+    (bytes_eq (codes "k_scan") name) t e)
     (λ e. named_at tasks t few (task_is tasks 1 name t e)) h
   where
     either : (x y : Option Target) → (x ≡ Some t → target_at tasks t.number ≡ Some t) → (y ≡ Some t → target_at tasks t.number ≡ Some t)

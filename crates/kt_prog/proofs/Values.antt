@@ -37,7 +37,8 @@ own_lemma (Some j) b t mode i h site rights l k = λ w.
     let f : Some j ≡ Some i = k e in
     cc
 
-module _ (lost : Script → Script) (site : Site) (rights : List Access) (own : Option ℕ) (H : Job → Type 0) (fam : site.in_main ≡ true → FamiliesMatch site rights own) where
+module _ (lost : Script → Script) (site : Site) (rights : List Access) (own : Option ℕ) (H : Job → Type 0)
+    (fam : site.in_main ≡ true → FamiliesMatch site rights own) where
   abbrev pub D : Act → Type 0
   D = Allowed site.families rights own
 
@@ -118,7 +119,9 @@ module _ (lost : Script → Script) (site : Site) (rights : List Access) (own : 
     good = λ s locals line a h.
         let r = rules_of at.0 in
         let rule = load_rule s r.bare place in
-        good_then D H (IsObject rule) (OwnAt s None) _ _ (element_found rule (kind_of s name) (bound_of site locals name) place (left_none _ _ h) (looked site rights own fam s locals name a)) (λ o f.
+        good_then D H (IsObject rule) (OwnAt s None) _ _
+        (element_found rule (kind_of s name) (bound_of site locals name) place (left_none _ _ h)
+        (looked site rights own fam s locals name a)) (λ o f.
         good_then D H (OwnAt s r.bare) (OwnAt s None) _ _ (at.1.good s locals line a (right_none _ _ h)) (λ i w.
         good_then D H (λ _. nat_lt i (width_of site.families o) ≡ true) (OwnAt s None) _ _ (good_test D H _ F2 line) (λ _ lt.
         forget (OwnAt s None) _ (good_load D H o i
@@ -135,4 +138,8 @@ module _ (lost : Script → Script) (site : Site) (rights : List Access) (own : 
   pub expr_keeps : (e : Expr) → KeepsExpr (rules_of e) (value_of lost e)
   expr_keeps = ind-Expr (λ e. KeepsExpr (rules_of e) (value_of lost e)) (λ x y is.
       subst (λ (z : Expr-F Expr). KeepsExpr (rules_of (roll-Expr z)) (value_of lost (roll-Expr z))) is
-      (rw (fold-roll-Expr ExprRules expr_rules (map-Expr _ _ (λ e. e.0) y), fold-roll-Expr ExprMeaning (expr_step lost) (map-Expr _ _ (λ e. e.0) y)) (expr_layer y)))
+      (rw (
+        fold-roll-Expr ExprRules expr_rules (map-Expr _ _ (λ e. e.0) y),
+        fold-roll-Expr ExprMeaning (expr_step lost)
+            (map-Expr _ _ (λ e. e.0) y),
+      ) (expr_layer y)))
