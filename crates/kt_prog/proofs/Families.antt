@@ -36,10 +36,12 @@ some_members objects elements f h =
 pub all_there : (families : List Family) (objects elements : ℕ) → family_rules objects elements families ≡ [] → AllThere families
 all_there [] objects elements h = tt
 all_there (f ∷ families) objects elements h =
-    let s = small_enough (too_large objects elements f) f (family_rules objects elements families) (family_rules (objects + f.members) (elements + f.members * f.elements) families) h in
+    let s = small_enough (too_large objects elements f) f (family_rules objects elements families)
+    (family_rules (objects + f.members) (elements + f.members * f.elements) families) h in
     (some_members objects elements f s.0, all_there families (objects + f.members) (elements + f.members * f.elements) s.1)
 
-within_limits : (objects elements : ℕ) (f : Family) → too_large objects elements f ≡ false → (objects + f.members ≤ OBJECTS) × (elements + f.members * f.elements ≤ ELEMENTS)
+within_limits : (objects elements : ℕ) (f : Family) → too_large objects elements f ≡ false
+    → (objects + f.members ≤ OBJECTS) × (elements + f.members * f.elements ≤ ELEMENTS)
 within_limits objects elements f h =
     let a = nat_eq f.members 0 in
     let b = nat_eq f.elements 0 in
@@ -51,11 +53,13 @@ within_limits objects elements f h =
     let small : nat_lt ELEMENTS (elements + f.members * f.elements) ≡ false = last.1 in
     (grind (arith, nat_tests), grind (arith, nat_tests))
 
-pub limits_kept : (families : List Family) (objects elements : ℕ) → family_rules objects elements families ≡ [] → objects ≤ OBJECTS → elements ≤ ELEMENTS
+pub limits_kept : (families : List Family) (objects elements : ℕ) → family_rules objects elements families ≡ [] → objects ≤ OBJECTS
+    → elements ≤ ELEMENTS
     → (objects + objects_of families ≤ OBJECTS) × (elements + elements_of families ≤ ELEMENTS)
 limits_kept [] objects elements h few small = (omega arith, omega arith)
 limits_kept (f ∷ families) objects elements h few small =
-    let s = small_enough (too_large objects elements f) f (family_rules objects elements families) (family_rules (objects + f.members) (elements + f.members * f.elements) families) h in
+    let s = small_enough (too_large objects elements f) f (family_rules objects elements families)
+    (family_rules (objects + f.members) (elements + f.members * f.elements) families) h in
     let w = within_limits objects elements f s.0 in
     let r = limits_kept families (objects + f.members) (elements + f.members * f.elements) s.1 w.0 w.1 in
     let o : objects + f.members + objects_of families ≤ OBJECTS = r.0 in
@@ -66,13 +70,16 @@ module _ (site : Site) (total : ℕ) where
   abbrev pub main_rights : List Access
   main_rights = record { lo = 0; hi = total; mode = Xp } ∷ []
 
-  family_suits : (many : Bool) (first members : ℕ) → 1 ≤ members → first + members ≤ total → Suits site main_rights None (kind_family many) (bound_family many first members)
+  family_suits : (many : Bool) (first members : ℕ) → 1 ≤ members → first + members ≤ total
+      → Suits site main_rights None (kind_family many) (bound_family many first members)
   family_suits true first members one le = (omega arith, inl (omega arith, le, refl))
   family_suits false first members one le = inl (omega arith, omega arith, refl)
 
-  pub families_found : (families : List Family) (first : ℕ) (name : List ℕ) → AllThere families → first + objects_of families ≤ total → Found site main_rights None (family_known families name) (family_of first families name)
+  pub families_found : (families : List Family) (first : ℕ) (name : List ℕ) → AllThere families → first + objects_of families ≤ total
+      → Found site main_rights None (family_known families name) (family_of first families name)
   families_found [] first name there le = tt
   families_found (f ∷ families) first name there le =
       let sum : first + (f.members + objects_of families) ≤ total = le in
-      found_if site main_rights None (bytes_eq f.name name) (kind_family f.many) (bound_family f.many first f.members) (family_known families name) (family_of (first + f.members) families name)
+      found_if site main_rights None (bytes_eq f.name name) (kind_family f.many) (bound_family f.many first f.members)
+      (family_known families name) (family_of (first + f.members) families name)
       (family_suits f.many first f.members there.0 (omega arith)) (families_found families (first + f.members) name there.1 (omega arith))

@@ -51,13 +51,16 @@ not_true : (b : Bool) → not b ≡ true → b ≡ false
 not_true true h = cc
 not_true false h = refl
 
-module _ (lost : Script → Script) (site : Site) (rights : List Access) (own : Option ℕ) (H : Job → Type 0) (fam : site.in_main ≡ true → FamiliesMatch site rights own) where
+module _ (lost : Script → Script) (site : Site) (rights : List Access) (own : Option ℕ) (H : Job → Type 0)
+    (fam : site.in_main ≡ true → FamiliesMatch site rights own) where
   -- the rights hand on this mode on the objects from lo up to hi
   abbrev pub HasCover : Mode → ℕ → ℕ → Type 0
   HasCover mode lo hi = SomeOf (Covers (record { lo = lo; hi = hi; mode = mode })) rights
 
-  cover : (have want : Mode) (lo hi lo' hi' : ℕ) → hands_on_of have want ≡ true → HasRight site rights own have lo hi → lo ≤ lo' → hi' ≤ hi → HasCover want lo' hi'
-  cover have want lo hi lo' hi' h r l k = some_more (λ (a : Access). (a.lo ≤ lo) × (hi ≤ a.hi) × (a.mode ≡ have)) (Covers (record { lo = lo'; hi = hi'; mode = want }))
+  cover : (have want : Mode) (lo hi lo' hi' : ℕ) → hands_on_of have want ≡ true → HasRight site rights own have lo hi → lo ≤ lo' → hi' ≤ hi
+      → HasCover want lo' hi'
+  cover have want lo hi lo' hi' h r l k = some_more (λ (a : Access). (a.lo ≤ lo) × (hi ≤ a.hi) × (a.mode ≡ have))
+      (Covers (record { lo = lo'; hi = hi'; mode = want }))
       (λ a x. (omega arith, omega arith, subst (λ (m : Mode). hands_on_of m want ≡ true) (sym x.2) h)) rights r
 
   abbrev pub GoodAt : {X : Type 0} → (X → Type 0) → Step X → Type 0
@@ -73,7 +76,8 @@ module _ (lost : Script → Script) (site : Site) (rights : List Access) (own : 
   abbrev pub IsRange : Mode → Range → Type 0
   IsRange want r = (have : Mode) × (hands_on_of have want ≡ true) × (r.lo ≤ r.hi) × HasRight site rights own have r.lo r.hi
 
-  one_found : (at place : Place) (want : Mode) (kind : Option Kind) (bound : Option Bound) → wants_one at want kind place ≡ [] → Found site rights own kind bound → GoodAt (IsOne want) (object_in lost bound)
+  one_found : (at place : Place) (want : Mode) (kind : Option Kind) (bound : Option Bound) → wants_one at want kind place ≡ []
+      → Found site rights own kind bound → GoodAt (IsOne want) (object_in lost bound)
   one_found at place want None bound h f = cc
   one_found at place want (Some Number) bound h f = cc
   one_found at place want (Some Variable) bound h f = cc
@@ -81,10 +85,12 @@ module _ (lost : Script → Script) (site : Site) (rights : List Access) (own : 
   one_found at place want (Some (Many mode)) bound h f = cc
   one_found at place want (Some (One mode)) None h f = absurd f
   one_found at place want (Some (One mode)) (Some (B.Number n)) h f = absurd f
-  one_found at place want (Some (One mode)) (Some (B.One o)) h f = good_give _ H (IsOne want) o (cover mode want o (suc o) o (o + 1) (not_false _ (not_denied at P9 _ h)) f (omega arith) (omega arith))
+  one_found at place want (Some (One mode)) (Some (B.One o)) h f = good_give _ H (IsOne want) o
+      (cover mode want o (suc o) o (o + 1) (not_false _ (not_denied at P9 _ h)) f (omega arith) (omega arith))
   one_found at place want (Some (One mode)) (Some (B.Many lo hi)) h f = absurd f
 
-  many_found : (at place : Place) (want : Mode) (kind : Option Kind) (bound : Option Bound) → wants_many at want kind place ≡ [] → Found site rights own kind bound → GoodAt (IsRange want) (range_in lost bound)
+  many_found : (at place : Place) (want : Mode) (kind : Option Kind) (bound : Option Bound) → wants_many at want kind place ≡ []
+      → Found site rights own kind bound → GoodAt (IsRange want) (range_in lost bound)
   many_found at place want None bound h f = cc
   many_found at place want (Some Number) bound h f = cc
   many_found at place want (Some Variable) bound h f = cc
@@ -93,7 +99,8 @@ module _ (lost : Script → Script) (site : Site) (rights : List Access) (own : 
   many_found at place want (Some (Many mode)) None h f = absurd f
   many_found at place want (Some (Many mode)) (Some (B.Number n)) h f = absurd f
   many_found at place want (Some (Many mode)) (Some (B.One o)) h f = absurd f
-  many_found at place want (Some (Many mode)) (Some (B.Many lo hi)) h f = good_give _ H (IsRange want) (record { lo = lo; hi = hi }) (mode, not_false _ (not_denied at P9 _ h), f.0, f.1)
+  many_found at place want (Some (Many mode)) (Some (B.Many lo hi)) h f = good_give _ H (IsRange want) (record { lo = lo; hi = hi })
+      (mode, not_false _ (not_denied at P9 _ h), f.0, f.1)
 
   module _ (s : Scope) (locals : List Local) (line : ℕ) (a : Agrees site rights own s locals) where
     abbrev v : View
@@ -106,16 +113,22 @@ module _ (lost : Script → Script) (site : Site) (rights : List Access) (own : 
     one_good at want (E.Num n) h = cc
     one_good at want (E.Var name place) h = one_found at place want (kind_of s name) (bound_of site locals name) h (looked site rights own fam s locals name a)
     one_good at want (E.Elem name place e) h =
-        good_then _ H (IsRange want) (IsOne want) _ _ (many_found at place want (kind_of s name) (bound_of site locals name) (left_none _ _ h) (looked site rights own fam s locals name a)) (λ r f.
+        good_then _ H (IsRange want) (IsOne want) _ _
+        (many_found at place want (kind_of s name) (bound_of site locals name) (left_none _ _ h)
+        (looked site rights own fam s locals name a)) (λ r f.
         good_then _ H (λ (n : ℕ). Unit {0}) (IsOne want) _ _ (number_good e (right_none _ _ h)) (λ i _.
         good_then _ H (λ _. nat_lt i (range_length r) ≡ true) (IsOne want) _ _ (good_test _ H _ F3 line) (λ _ lt.
         let below : i < r.hi - r.lo = grind (arith, nat_tests) in
         good_give _ H (IsOne want) (r.lo + i) (cover f.0 want r.lo r.hi (r.lo + i) (r.lo + i + 1) f.1 f.3 (omega arith) (omega arith)))))
     one_good at want (E.Bin op x y) h = cc
 
-    span_good : (want : Mode) (name : List ℕ) (place at : Place) (x y : Expr) → (wants_many at want (kind_of s name) place ++ breaches_in x s ++ breaches_in y s) ≡ [] → GoodAt (IsMany want) (range_of lost (A.Span name place x y) v)
+    span_good : (want : Mode) (name : List ℕ) (place at : Place) (x y : Expr)
+        → (wants_many at want (kind_of s name) place ++ breaches_in x s ++ breaches_in y s) ≡ []
+        → GoodAt (IsMany want) (range_of lost (A.Span name place x y) v)
     span_good want name place at x y h =
-        good_then _ H (IsRange want) (IsMany want) _ _ (many_found at place want (kind_of s name) (bound_of site locals name) (left_none _ _ (left_none _ _ h)) (looked site rights own fam s locals name a)) (λ r f.
+        good_then _ H (IsRange want) (IsMany want) _ _
+        (many_found at place want (kind_of s name) (bound_of site locals name) (left_none _ _ (left_none _ _ h))
+        (looked site rights own fam s locals name a)) (λ r f.
         good_then _ H (λ (n : ℕ). Unit {0}) (IsMany want) _ _ (number_good x (right_none _ _ (left_none _ _ h))) (λ from _.
         good_then _ H (λ (n : ℕ). Unit {0}) (IsMany want) _ _ (number_good y (right_none _ _ h)) (λ to _.
         good_then _ H (λ _. (nat_le from to && nat_le to (range_length r)) ≡ true) (IsMany want) _ _ (good_test _ H _ F3 line) (λ _ lt.
@@ -136,7 +149,8 @@ module _ (lost : Script → Script) (site : Site) (rights : List Access) (own : 
     module _ (objects : ℕ) (room : EachOf (Inside objects) rights) (all : List Sort) where
       -- what was given so far goes before what fits the other parameters
       pub record Given_so (sorts : List Sort) (g : Given) : Type 0 where
-        pub fits : (ints : List ℕ) (accesses : List Access) → AreGiven sorts ints accesses → AreGiven all (g.ints ++ ints) (g.accesses ++ accesses)
+        pub fits : (ints : List ℕ) (accesses : List Access) → AreGiven sorts ints accesses
+            → AreGiven all (g.ints ++ ints) (g.accesses ++ accesses)
         pub covered : EachOf (λ b. SomeOf (Covers b) rights) g.accesses
         pub inside : EachOf (Inside objects) g.accesses
 
@@ -153,29 +167,41 @@ module _ (lost : Script → Script) (site : Site) (rights : List Access) (own : 
         inside = h.inside;
       }
 
-      access_more : (sort : Sort) (sorts : List Sort) (g : Given) (lo hi : ℕ) (mode : Mode) → ((ints : List ℕ) (accesses : List Access) → AreGiven sorts ints accesses → AreGiven (sort ∷ sorts) ints (record { lo = lo; hi = hi; mode = mode } ∷ accesses)) → HasCover mode lo hi → Given_so (sort ∷ sorts) g → Given_so sorts (with_access g lo hi mode)
+      access_more : (sort : Sort) (sorts : List Sort) (g : Given) (lo hi : ℕ) (mode : Mode)
+          → ((ints : List ℕ) (accesses : List Access) → AreGiven sorts ints accesses → AreGiven (sort ∷ sorts) ints
+          (record { lo = lo; hi = hi; mode = mode } ∷ accesses))
+          → HasCover mode lo hi → Given_so (sort ∷ sorts) g → Given_so sorts (with_access g lo hi mode)
       access_more sort sorts g lo hi mode one c h = record {
-        fits = λ ints accesses r. rw (append_assoc g.accesses (record { lo = lo; hi = hi; mode = mode } ∷ []) accesses) (h.fits ints (record { lo = lo; hi = hi; mode = mode } ∷ accesses) (one ints accesses r));
+        fits = λ ints accesses r. rw (append_assoc g.accesses (record { lo = lo; hi = hi; mode = mode } ∷ []) accesses)
+            (h.fits ints (record { lo = lo; hi = hi; mode = mode } ∷ accesses) (one ints accesses r));
         covered = each_snoc (λ b. SomeOf (Covers b) rights) g.accesses _ h.covered c;
         inside = each_snoc (Inside objects) g.accesses _ h.inside (inside_of mode lo hi c);
       }
 
-      argument_good : (sort : Sort) (sorts : List Sort) (place : Place) (what : ArgWhat) (g : Given) → argument_rule place sort s what ≡ [] → Given_so (sort ∷ sorts) g → GoodAt (Given_so sorts) (argument lost sort (record { place = place; what = what }) v g)
+      argument_good : (sort : Sort) (sorts : List Sort) (place : Place) (what : ArgWhat) (g : Given) → argument_rule place sort s what ≡ []
+          → Given_so (sort ∷ sorts) g → GoodAt (Given_so sorts) (argument lost sort (record { place = place; what = what }) v g)
       argument_good S.Int sorts place (A.Value e) g h so =
-          good_then _ H (λ (n : ℕ). Unit {0}) (Given_so sorts) _ _ (number_good e h) (λ n _. good_give _ H (Given_so sorts) (with_int g n) (int_more sorts g n so))
-      argument_good S.Int sorts place (A.Span name p x y) g h so = absurd (never_object place p (kind_of s name) _ (left_none (wants_other place (kind_of s name) p ++ breaches_in x s) (breaches_in y s) h))
+          good_then _ H (λ (n : ℕ). Unit {0}) (Given_so sorts) _ _ (number_good e h)
+          (λ n _. good_give _ H (Given_so sorts) (with_int g n) (int_more sorts g n so))
+      argument_good S.Int sorts place (A.Span name p x y) g h so = absurd
+          (never_object place p (kind_of s name) _ (left_none (wants_other place (kind_of s name) p ++ breaches_in x s) (breaches_in y s) h))
       argument_good (S.One want) sorts place (A.Value e) g h so =
           good_then _ H (IsOne want) (Given_so sorts) _ _ (one_good place want (out-Expr e) h) (λ o c.
-          good_give _ H (Given_so sorts) (with_access g o (o + 1) want) (access_more (S.One want) sorts g o (o + 1) want (λ ints accesses r. (refl, refl, r)) c so))
-      argument_good (S.One want) sorts place (A.Span name p x y) g h so = absurd (never_object place p (kind_of s name) _ (left_none (wants_other place (kind_of s name) p ++ breaches_in x s) (breaches_in y s) h))
+          good_give _ H (Given_so sorts) (with_access g o (o + 1) want)
+          (access_more (S.One want) sorts g o (o + 1) want (λ ints accesses r. (refl, refl, r)) c so))
+      argument_good (S.One want) sorts place (A.Span name p x y) g h so = absurd
+          (never_object place p (kind_of s name) _ (left_none (wants_other place (kind_of s name) p ++ breaches_in x s) (breaches_in y s) h))
       argument_good (S.Many want) sorts place (A.Value e) g h so =
           good_then _ H (IsMany want) (Given_so sorts) _ _ (many_good place want (out-Expr e) h) (λ r c.
-          good_give _ H (Given_so sorts) (with_access g r.lo r.hi want) (access_more (S.Many want) sorts g r.lo r.hi want (λ ints accesses q. (refl, c.0, q)) c.1 so))
+          good_give _ H (Given_so sorts) (with_access g r.lo r.hi want)
+          (access_more (S.Many want) sorts g r.lo r.hi want (λ ints accesses q. (refl, c.0, q)) c.1 so))
       argument_good (S.Many want) sorts place (A.Span name p x y) g h so =
           good_then _ H (IsMany want) (Given_so sorts) _ _ (span_good want name p place x y h) (λ r c.
-          good_give _ H (Given_so sorts) (with_access g r.lo r.hi want) (access_more (S.Many want) sorts g r.lo r.hi want (λ ints accesses q. (refl, c.0, q)) c.1 so))
+          good_give _ H (Given_so sorts) (with_access g r.lo r.hi want)
+          (access_more (S.Many want) sorts g r.lo r.hi want (λ ints accesses q. (refl, c.0, q)) c.1 so))
 
-      arguments_good : (sorts : List Sort) (args : List Arg) (g : Given) → length args ≡ length sorts → argument_rules sorts s args ≡ [] → Given_so sorts g → GoodAt (Given_so []) (arguments lost sorts args v g)
+      arguments_good : (sorts : List Sort) (args : List Arg) (g : Given) → length args ≡ length sorts → argument_rules sorts s args ≡ []
+          → Given_so sorts g → GoodAt (Given_so []) (arguments lost sorts args v g)
       arguments_good [] [] g e h so = good_give _ H (Given_so []) g so
       arguments_good [] (x ∷ args) g e h so = absurd (omega (arith, e))
       arguments_good (sort ∷ sorts) [] g e h so = absurd (omega (arith, e))
@@ -200,8 +226,12 @@ module _ (lost : Script → Script) (site : Site) (rights : List Access) (own : 
     none_formed false None h e = refl
     none_formed false (Some x) h e = cc
 
-    module _ (objects : ℕ) (room : EachOf (Inside objects) rights) (hands : own ≡ None → (name : List ℕ) (t : Target) → target_of site.tasks name ≡ Some t → (call : CallTree) → FitsTarget objects call t → call.depth ≡ suc site.depth → EachOf (λ b. SomeOf (Covers b) rights) call.accesses → H (Whole call)) where
-      target_good : (name : List ℕ) (t : Target) (place : Place) (len : Option Expr) (args : List Arg) → own ≡ None → target_of site.tasks name ≡ Some t → fork_rule (Some t) place s len args ≡ [] → GoodAt (λ _. Unit {0}) (fork_step lost t len args v)
+    module _ (objects : ℕ) (room : EachOf (Inside objects) rights)
+        (hands : own ≡ None → (name : List ℕ) (t : Target) → target_of site.tasks name ≡ Some t → (call : CallTree)
+        → FitsTarget objects call t → call.depth ≡ suc site.depth → EachOf (λ b. SomeOf (Covers b) rights) call.accesses → H (Whole call)) where
+      target_good : (name : List ℕ) (t : Target) (place : Place) (len : Option Expr) (args : List Arg) → own ≡ None
+          → target_of site.tasks name ≡ Some t → fork_rule (Some t) place s len args ≡ []
+          → GoodAt (λ _. Unit {0}) (fork_step lost t len args v)
       target_good name t place len args none is h =
           let is_counted = nat_eq (length args) (length t.sorts) in
           let is_form = is_formed t.is_loop len in
@@ -215,16 +245,19 @@ module _ (lost : Script → Script) (site : Site) (rights : List Access) (own : 
           let long_rule : lengths ≡ [] = right_none (names ++ forms) lengths first in
           let counts : is_counted ≡ true = not_false is_counted counted in
           let same : length args ≡ length t.sorts = grind (arith, nat_tests) in
-          let rules = both_true is_counted is_form (argument_rules t.sorts s args) (unknown_in_all s args) counted formed (right_none (names ++ forms ++ lengths) others h) in
+          let rules = both_true is_counted is_form (argument_rules t.sorts s args) (unknown_in_all s args) counted formed
+          (right_none (names ++ forms ++ lengths) others h) in
           good_then _ H (IsLength len) (λ _. Unit {0}) _ _ (length_good len long_rule) (λ n long.
           good_then _ H (Given_so objects room t.sorts []) (λ _. Unit {0}) _ _
-          (arguments_good objects room t.sorts t.sorts args nothing_given same rules (record { fits = λ ints accesses r. r; covered = tt; inside = tt })) (λ g so.
+          (arguments_good objects room t.sorts t.sorts args nothing_given same rules
+          (record { fits = λ ints accesses r. r; covered = tt; inside = tt })) (λ g so.
           good_then _ H (λ _. not (clashes g.accesses) ≡ true) (λ _. Unit {0}) _ _ (good_test _ H _ F4 line) (λ _ apart.
           good_then _ H (λ _. nat_le (site.depth + 1) DEPTH ≡ true) (λ _. Unit {0}) _ _ (good_test _ H _ F5 line) (λ _ deep.
           let depth : site.depth + 1 ≤ DEPTH = grind (arith, nat_tests) in
           good_fork _ H (Whole (child t v n g)) (hands none name t is (child t v n g) (record {
             number = refl;
-            given = subst (λ (xs : List ℕ). AreGiven t.sorts xs g.accesses) (append-nil g.ints) (subst (λ (xs : List Access). AreGiven t.sorts (g.ints ++ []) xs) (append-nil g.accesses) (so.fits [] [] (refl, refl)));
+            given = subst (λ (xs : List ℕ). AreGiven t.sorts xs g.accesses) (append-nil g.ints)
+                (subst (λ (xs : List Access). AreGiven t.sorts (g.ints ++ []) xs) (append-nil g.accesses) (so.fits [] [] (refl, refl)));
             inside = so.inside;
             apart = not_true _ apart;
             long = long.0;
@@ -233,6 +266,7 @@ module _ (lost : Script → Script) (site : Site) (rights : List Access) (own : 
             deep = depth;
           }) (omega arith) so.covered)))))
 
-      pub fork_good : (name : List ℕ) (x : Option Target) (place : Place) (len : Option Expr) (args : List Arg) → own ≡ None → target_of site.tasks name ≡ x → fork_rule x place s len args ≡ [] → GoodAt (λ _. Unit {0}) (fork_named lost x len args v)
+      pub fork_good : (name : List ℕ) (x : Option Target) (place : Place) (len : Option Expr) (args : List Arg) → own ≡ None
+          → target_of site.tasks name ≡ x → fork_rule x place s len args ≡ [] → GoodAt (λ _. Unit {0}) (fork_named lost x len args v)
       fork_good name None place len args none is h = cc
       fork_good name (Some t) place len args none is h = target_good name t place len args none is h

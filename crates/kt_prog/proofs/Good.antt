@@ -18,7 +18,8 @@ module _ (D : Act → Type 0) (H : Job → Type 0) where
   unfolding give
   good_give P x h = record { keeps = λ go k. k x h }
 
-  pub good_then : {A B : Type 0} (P : A → Type 0) (Q : B → Type 0) (m : Step A) (f : A → Step B) → Good P m → ((x : A) → P x → Good Q (f x)) → Good Q (m >>= f)
+  pub good_then : {A B : Type 0} (P : A → Type 0) (Q : B → Type 0) (m : Step A) (f : A → Step B) → Good P m → ((x : A) → P x → Good Q (f x))
+      → Good Q (m >>= f)
   unfolding ◌>>=◌
   good_then P Q m f h k = record { keeps = λ go l. h.keeps (λ x. f x go) (λ x p. (k x p).keeps go l) }
 
@@ -30,11 +31,13 @@ module _ (D : Act → Type 0) (H : Job → Type 0) where
   good_test true law line = good_give (λ _. true ≡ true) tt refl
   good_test false law line = good_stop (λ _. false ≡ true) law line
 
-  pub good_load : (object element : ℕ) → D (record { object = object; element = element; deed = Load }) → Good (λ (n : ℕ). Unit {0}) (load object element)
+  pub good_load : (object element : ℕ) → D (record { object = object; element = element; deed = Load })
+      → Good (λ (n : ℕ). Unit {0}) (load object element)
   unfolding load
   good_load object element d = record { keeps = λ go k. (d, λ a. k a tt) }
 
-  pub good_perform : (object element : ℕ) (deed : Deed) → D (record { object = object; element = element; deed = deed }) → Good (λ _. Unit {0}) (perform object element deed)
+  pub good_perform : (object element : ℕ) (deed : Deed) → D (record { object = object; element = element; deed = deed })
+      → Good (λ _. Unit {0}) (perform object element deed)
   unfolding perform
   good_perform object element deed d = record { keeps = λ go k. (d, λ a. k tt tt) }
 

@@ -47,14 +47,16 @@ module _ (families : List Family) (rights : List Access) (H : Job → Type 0) wh
   abbrev pub Has : Mode → ℕ → Type 0
   Has mode o = SomeOf (λ (a : Access). (a.lo ≤ o) × (suc o ≤ a.hi) × (a.mode ≡ mode)) rights
 
-  may : (mode : Mode) (o e : ℕ) (deed : Deed) → lets mode deed ≡ true → e < width_of families o → Has mode o → Allowed families rights None (record { object = o; element = e; deed = deed })
+  may : (mode : Mode) (o e : ℕ) (deed : Deed) → lets mode deed ≡ true → e < width_of families o → Has mode o
+      → Allowed families rights None (record { object = o; element = e; deed = deed })
   may mode o e deed l lt h = (
     lt,
     some_more (λ (a : Access). (a.lo ≤ o) × (suc o ≤ a.hi) × (a.mode ≡ mode)) (Permits None (record { object = o; element = e; deed = deed }))
         (λ a x. (x.0, omega arith, subst (λ (m : Mode). lets m deed ≡ true) (sym x.2) l, tt)) rights h,
   )
 
-  loads_good : (mode : Mode) (o from n : ℕ) → lets mode Load ≡ true → Has mode o → from + n ≤ width_of families o → GoodAt (λ xs. length xs ≡ n) (load_all o from n)
+  loads_good : (mode : Mode) (o from n : ℕ) → lets mode Load ≡ true → Has mode o → from + n ≤ width_of families o
+      → GoodAt (λ xs. length xs ≡ n) (load_all o from n)
   loads_good mode o from zero l h le = good_give _ H (λ xs. length xs ≡ 0) [] refl
   loads_good mode o from (suc n) l h le =
       let below : from < width_of families o = omega arith in
@@ -62,17 +64,21 @@ module _ (families : List Family) (rights : List Access) (H : Job → Type 0) wh
       good_then _ H (λ xs. length xs ≡ n) (λ xs. length xs ≡ suc n) _ _ (loads_good mode o (suc from) n l h (omega arith)) (λ xs e.
       good_give _ H (λ xs. length xs ≡ suc n) (x ∷ xs) (ap suc e)))
 
-  performs_good : (mode : Mode) (f : ℕ → Deed) (o from : ℕ) (xs : List ℕ) → ((x : ℕ) → lets mode (f x) ≡ true) → Has mode o → from + length xs ≤ width_of families o → GoodAt Nothing (perform_all f o from xs)
+  performs_good : (mode : Mode) (f : ℕ → Deed) (o from : ℕ) (xs : List ℕ) → ((x : ℕ) → lets mode (f x) ≡ true) → Has mode o
+      → from + length xs ≤ width_of families o → GoodAt Nothing (perform_all f o from xs)
   performs_good mode f o from [] l h le = good_give _ H Nothing tt tt
   performs_good mode f o from (x ∷ xs) l h le =
       let room : from + suc (length xs) ≤ width_of families o = le in
       let below : from < width_of families o = omega arith in
-      good_then _ H Nothing Nothing _ _ (good_perform _ H o from (f x) (may mode o from (f x) (l x) below h)) (λ _ _. performs_good mode f o (suc from) xs l h (omega arith))
+      good_then _ H Nothing Nothing _ _ (good_perform _ H o from (f x) (may mode o from (f x) (l x) below h))
+      (λ _ _. performs_good mode f o (suc from) xs l h (omega arith))
 
   has_room : (o n : ℕ) → has families o n ≡ true → 0 + n ≤ width_of families o
   has_room o n h = let le : nat_le n (width_of families o) ≡ true = h in grind (arith, nat_tests)
 
-  product_good : (f : ℕ → ℕ → ℕ → List ℕ → List ℕ → List ℕ) (deed : ℕ → Deed) (mode : Mode) (n p q a b c : ℕ) → ((xs ys : List ℕ) → length (f n p q xs ys) ≡ n * q) → ((x : ℕ) → lets mode (deed x) ≡ true) → Has R a → Has R b → Has mode c → GoodAt Nothing (product families f deed n p q a b c)
+  product_good : (f : ℕ → ℕ → ℕ → List ℕ → List ℕ → List ℕ) (deed : ℕ → Deed) (mode : Mode) (n p q a b c : ℕ)
+      → ((xs ys : List ℕ) → length (f n p q xs ys) ≡ n * q) → ((x : ℕ) → lets mode (deed x) ≡ true) → Has R a → Has R b → Has mode c
+      → GoodAt Nothing (product families f deed n p q a b c)
   product_good f deed mode n p q a b c long l ra rb rc =
       let t1 = is_side n && is_side p && is_side q in
       let t2 = has families a (n * p) in
@@ -86,7 +92,8 @@ module _ (families : List Family) (rights : List Access) (H : Job → Type 0) wh
       good_then _ H (λ ys. length ys ≡ p * q) Nothing _ _ (loads_good R b 0 (p * q) refl rb (has_room b (p * q) e3.1)) (λ ys _.
       performs_good mode deed c 0 (f n p q xs ys) l rc (rw (long xs ys) (has_room c (n * q) e4.1)))))
 
-  smooth_good : (n l a r b : ℕ) → Has R l → Has R a → Has R r → Has W b → n ≤ width_of families l → n ≤ width_of families a → n ≤ width_of families r → n ≤ width_of families b → GoodAt Nothing (smooth families n l a r b)
+  smooth_good : (n l a r b : ℕ) → Has R l → Has R a → Has R r → Has W b → n ≤ width_of families l → n ≤ width_of families a
+      → n ≤ width_of families r → n ≤ width_of families b → GoodAt Nothing (smooth families n l a r b)
   smooth_good zero l a r b hl ha hr hb wl wa wr wb = good_give _ H Nothing tt tt
   smooth_good (suc n) l a r b hl ha hr hb wl wa wr wb =
       let left_there : n < width_of families l = omega arith in
@@ -135,20 +142,32 @@ HasOf accesses mode o = SomeOf (λ (a : Access). (a.lo ≤ o) × (suc o ≤ a.hi
 own_first : (a : Access) (mode : Mode) → a.mode ≡ mode → a.hi ≡ a.lo + 1 → (a.lo ≤ a.lo) × (suc a.lo ≤ a.hi) × (a.mode ≡ mode)
 own_first a mode m e = (omega arith, omega (arith, e), m)
 
-products : (m : Mode) (ints : List ℕ) (accesses : List Access) → AreGiven (S.Int ∷ S.Int ∷ S.Int ∷ S.One R ∷ S.One R ∷ S.One m ∷ []) ints accesses → HasOf accesses R (object_at accesses 0) × HasOf accesses R (object_at accesses 1) × HasOf accesses m (object_at accesses 2)
-products m (n ∷ p ∷ q ∷ ints) (a ∷ b ∷ c ∷ more) h = (inl (own_first a R h.0 h.1), inr (inl (own_first b R h.2.0 h.2.1)), inr (inr (inl (own_first c m h.2.2.0 h.2.2.1))))
+products : (m : Mode) (ints : List ℕ) (accesses : List Access)
+    → AreGiven (S.Int ∷ S.Int ∷ S.Int ∷ S.One R ∷ S.One R ∷ S.One m ∷ []) ints accesses
+    → HasOf accesses R (object_at accesses 0) × HasOf accesses R (object_at accesses 1) × HasOf accesses m (object_at accesses 2)
+products m (n ∷ p ∷ q ∷ ints) (a ∷ b ∷ c ∷ more) h =
+    (inl (own_first a R h.0 h.1), inr (inl (own_first b R h.2.0 h.2.1)), inr (inr (inl (own_first c m h.2.2.0 h.2.2.1))))
 products m (n ∷ p ∷ q ∷ ints) (a ∷ []) h = absurd h.2
 products m (n ∷ p ∷ q ∷ ints) (a ∷ b ∷ []) h = absurd h.2.2
 products m ints accesses h = absurd h
 
-stencils : (ints : List ℕ) (accesses : List Access) → AreGiven (S.Int ∷ S.One R ∷ S.One R ∷ S.One R ∷ S.One W ∷ []) ints accesses → HasOf accesses R (object_at accesses 0) × HasOf accesses R (object_at accesses 1) × HasOf accesses R (object_at accesses 2) × HasOf accesses W (object_at accesses 3)
-stencils (n ∷ ints) (a ∷ b ∷ c ∷ d ∷ more) h = (inl (own_first a R h.0 h.1), inr (inl (own_first b R h.2.0 h.2.1)), inr (inr (inl (own_first c R h.2.2.0 h.2.2.1))), inr (inr (inr (inl (own_first d W h.2.2.2.0 h.2.2.2.1)))))
+stencils : (ints : List ℕ) (accesses : List Access) → AreGiven (S.Int ∷ S.One R ∷ S.One R ∷ S.One R ∷ S.One W ∷ []) ints accesses
+    → HasOf accesses R (object_at accesses 0) × HasOf accesses R (object_at accesses 1) × HasOf accesses R
+    (object_at accesses 2) × HasOf accesses W (object_at accesses 3)
+stencils (n ∷ ints) (a ∷ b ∷ c ∷ d ∷ more) h = (
+  inl (own_first a R h.0 h.1),
+  inr (inl (own_first b R h.2.0 h.2.1)),
+  inr (inr (inl (own_first c R h.2.2.0 h.2.2.1))),
+  inr
+      (inr (inr (inl (own_first d W h.2.2.2.0 h.2.2.2.1)))),
+)
 stencils (n ∷ ints) (a ∷ []) h = absurd h.2
 stencils (n ∷ ints) (a ∷ b ∷ []) h = absurd h.2.2
 stencils (n ∷ ints) (a ∷ b ∷ c ∷ []) h = absurd h.2.2.2
 stencils ints accesses h = absurd h
 
-scans : (ints : List ℕ) (accesses : List Access) → AreGiven (S.Int ∷ S.Int ∷ S.One R ∷ S.One X ∷ []) ints accesses → HasOf accesses R (object_at accesses 0) × HasOf accesses X (object_at accesses 1)
+scans : (ints : List ℕ) (accesses : List Access) → AreGiven (S.Int ∷ S.Int ∷ S.One R ∷ S.One X ∷ []) ints accesses
+    → HasOf accesses R (object_at accesses 0) × HasOf accesses X (object_at accesses 1)
 scans (n ∷ t ∷ ints) (a ∷ b ∷ more) h = (inl (own_first a R h.0 h.1), inr (inl (own_first b X h.2.0 h.2.1)))
 scans (n ∷ t ∷ ints) (a ∷ []) h = absurd h.2
 scans ints accesses h = absurd h
@@ -158,13 +177,16 @@ some_is e = cc
 
 module _ (families : List Family) (H : Job → Type 0) where
   -- a kernel keeps to the accesses of its call
-  pub kernel_good : (k : ℕ) (ints : List ℕ) (accesses : List Access) (t : Target) → kernel_at k ≡ Some t → AreGiven t.sorts ints accesses → Good (Allowed families accesses None) H (λ _. Unit {0}) (kernel_body families k ints accesses)
+  pub kernel_good : (k : ℕ) (ints : List ℕ) (accesses : List Access) (t : Target) → kernel_at k ≡ Some t → AreGiven t.sorts ints accesses
+      → Good (Allowed families accesses None) H (λ _. Unit {0}) (kernel_body families k ints accesses)
   kernel_good zero ints accesses t is given =
       let r = products (Cw Add) ints accesses (subst (λ (y : Target). AreGiven y.sorts ints accesses) (sym (some_is is)) given) in
-      product_good families accesses H mul_of (Fold Add) (Cw Add) (slice_index ints 0) (slice_index ints 1) (slice_index ints 2) _ _ _ (length-mul (slice_index ints 0) (slice_index ints 1) (slice_index ints 2)) (λ x. refl) r.0 r.1 r.2
+      product_good families accesses H mul_of (Fold Add) (Cw Add) (slice_index ints 0) (slice_index ints 1) (slice_index ints 2) _ _ _
+      (length-mul (slice_index ints 0) (slice_index ints 1) (slice_index ints 2)) (λ x. refl) r.0 r.1 r.2
   kernel_good (suc zero) ints accesses t is given =
       let r = products (Cw Min) ints accesses (subst (λ (y : Target). AreGiven y.sorts ints accesses) (sym (some_is is)) given) in
-      product_good families accesses H minplus_of (Fold Min) (Cw Min) (slice_index ints 0) (slice_index ints 1) (slice_index ints 2) _ _ _ (length-minplus (slice_index ints 0) (slice_index ints 1) (slice_index ints 2)) (λ x. refl) r.0 r.1 r.2
+      product_good families accesses H minplus_of (Fold Min) (Cw Min) (slice_index ints 0) (slice_index ints 1) (slice_index ints 2) _ _ _
+      (length-minplus (slice_index ints 0) (slice_index ints 1) (slice_index ints 2)) (λ x. refl) r.0 r.1 r.2
   kernel_good (suc (suc zero)) ints accesses t is given =
       let r = stencils ints accesses (subst (λ (y : Target). AreGiven y.sorts ints accesses) (sym (some_is is)) given) in
       stencil_good families accesses H (slice_index ints 0) _ _ _ _ r.0 r.1 r.2 r.3

@@ -37,11 +37,13 @@ module _ (site : Site) (rights : List Access) (own : Option ℕ) where
   Found (Some kind) (Some bound) = Suits kind bound
   Found _ _ = ⊥
 
-  pub found_if : (b : Bool) (kind : Kind) (bound : Bound) (x : Option Kind) (y : Option Bound) → Suits kind bound → Found x y → Found (if b then Some kind else x) (if b then Some bound else y)
+  pub found_if : (b : Bool) (kind : Kind) (bound : Bound) (x : Option Kind) (y : Option Bound) → Suits kind bound → Found x y
+      → Found (if b then Some kind else x) (if b then Some bound else y)
   found_if true kind bound x y s f = s
   found_if false kind bound x y s f = f
 
-  pub local_found : (names : List Known) (locals : List Local) (name : List ℕ) → Matches names locals → Found (known_of names name) (local_of locals name)
+  pub local_found : (names : List Known) (locals : List Local) (name : List ℕ) → Matches names locals
+      → Found (known_of names name) (local_of locals name)
   local_found [] [] name m = tt
   local_found [] (l ∷ locals) name m = absurd m
   local_found (k ∷ names) [] name m = absurd m
@@ -66,23 +68,27 @@ module _ (site : Site) (rights : List Access) (own : Option ℕ) where
     -- parameters and an index, and the names of statements
     pub room : length s.names ≤ 1 + INTS + ACCESSES + s.lets
 
-  found_else : (x : Option Kind) (y : Option Bound) (x' : Option Kind) (y' : Option Bound) → Found x y → Found x' y' → Found (or_else x x') (or_else y y')
+  found_else : (x : Option Kind) (y : Option Bound) (x' : Option Kind) (y' : Option Bound) → Found x y → Found x' y'
+      → Found (or_else x x') (or_else y y')
   found_else None None x' y' f g = g
   found_else (Some k) (Some b) x' y' f g = f
   found_else None (Some b) x' y' f g = absurd f
   found_else (Some k) None x' y' f g = absurd f
 
-  found_main : (b : Bool) (x : Option Kind) (y : Option Bound) → (b ≡ true → Found x y) → Found (if b then x else None) (if b then y else None)
+  found_main : (b : Bool) (x : Option Kind) (y : Option Bound) → (b ≡ true → Found x y)
+      → Found (if b then x else None) (if b then y else None)
   found_main true x y f = f refl
   found_main false x y f = tt
 
   -- each name is found as what it is
-  pub looked : (site.in_main ≡ true → FamiliesMatch) → (s : Scope) (locals : List Local) (name : List ℕ) → Agrees s locals → Found (kind_of s name) (bound_of site locals name)
+  pub looked : (site.in_main ≡ true → FamiliesMatch) → (s : Scope) (locals : List Local) (name : List ℕ) → Agrees s locals
+      → Found (kind_of s name) (bound_of site locals name)
   looked fam s locals name a =
       rw (a.in_main, a.families) (found_else (known_of s.names name) (local_of locals name) _ _ (local_found s.names locals name a.names)
       (found_main site.in_main (family_known site.families name) (family_of 0 site.families name) (λ e. fam e name)))
 
-  pub matches_snoc : (names : List Known) (locals : List Local) (k : Known) (l : Local) → Matches names locals → k.name ≡ l.name → Suits k.kind l.bound → Matches (names ++ k ∷ []) (locals ++ l ∷ [])
+  pub matches_snoc : (names : List Known) (locals : List Local) (k : Known) (l : Local) → Matches names locals → k.name ≡ l.name
+      → Suits k.kind l.bound → Matches (names ++ k ∷ []) (locals ++ l ∷ [])
   matches_snoc [] [] k l m e s = (e, s, tt)
   matches_snoc [] (x ∷ locals) k l m e s = absurd m
   matches_snoc (x ∷ names) [] k l m e s = absurd m

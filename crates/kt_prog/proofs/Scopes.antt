@@ -57,9 +57,11 @@ module _ (site : Site) (rights : List Access) (own : Option ℕ) where
       (subst (λ n. Match s.names (take n after)) (same_length site rights own s.names locals a.names) b)
 
   -- the table has room
-  pub room_left : (s : Scope) (locals : List Local) (name : List ℕ) (place : Place) → Agree s locals → new_name s name place ≡ [] → nat_lt (length locals) NAMES ≡ true
+  pub room_left : (s : Scope) (locals : List Local) (name : List ℕ) (place : Place) → Agree s locals → new_name s name place ≡ []
+      → nat_lt (length locals) NAMES ≡ true
   room_left s locals name place a h =
-      let few : nat_lt LOCALS (s.lets + 1) ≡ false = not_denied place P12 (nat_lt LOCALS (s.lets + 1)) (right_none (denied place P5 (is_some (kind_of s name))) (denied place P12 (nat_lt LOCALS (s.lets + 1))) h) in
+      let few : nat_lt LOCALS (s.lets + 1) ≡ false = not_denied place P12 (nat_lt LOCALS (s.lets + 1))
+      (right_none (denied place P5 (is_some (kind_of s name))) (denied place P12 (nat_lt LOCALS (s.lets + 1))) h) in
       let less : s.lets < LOCALS = grind (arith, nat_tests) in
       let room : length s.names ≤ 1 + INTS + ACCESSES + s.lets = a.room in
       let same = same_length site rights own s.names locals a.names in
@@ -67,7 +69,8 @@ module _ (site : Site) (rights : List Access) (own : Option ℕ) where
       grind (arith, nat_tests)
 
   -- one `let` or `for` name more
-  pub agrees_new : (s : Scope) (locals : List Local) (name : List ℕ) (kind : Kind) (n : ℕ) → Agree s locals → Suits site rights own kind (B.Number n) → Agree (with_name s name kind) (locals ++ record { name = name; bound = B.Number n } ∷ [])
+  pub agrees_new : (s : Scope) (locals : List Local) (name : List ℕ) (kind : Kind) (n : ℕ) → Agree s locals
+      → Suits site rights own kind (B.Number n) → Agree (with_name s name kind) (locals ++ record { name = name; bound = B.Number n } ∷ [])
   agrees_new s locals name kind n a suits =
       let room : length s.names ≤ 1 + INTS + ACCESSES + s.lets = a.room in
       let longer = length-snoc s.names (record { name = name; kind = kind }) in
@@ -76,7 +79,8 @@ module _ (site : Site) (rights : List Access) (own : Option ℕ) where
         tasks = a.tasks;
         in_main = a.in_main;
         loop = a.loop;
-        names = matches_snoc site rights own s.names locals (record { name = name; kind = kind }) (record { name = name; bound = B.Number n }) a.names refl suits;
+        names = matches_snoc site rights own s.names locals (record { name = name; kind = kind })
+            (record { name = name; bound = B.Number n }) a.names refl suits;
         room = omega (arith, longer, room);
       }
 
@@ -124,12 +128,14 @@ module _ (site : Site) (rights : List Access) (own : Option ℕ) where
   let_known (Some (One mode)) y place never h = cc
   let_known (Some (Many mode)) y place never h = cc
 
-  assigned : (b : Bool) (k : Known) (l : Local) (names : List Known) (locals others : List Local) (x : Option Kind) (n : ℕ) → Match (k ∷ names) (l ∷ locals) → (IsLet x → Match names others) → IsLet (if b then Some k.kind else x)
+  assigned : (b : Bool) (k : Known) (l : Local) (names : List Known) (locals others : List Local) (x : Option Kind) (n : ℕ)
+      → Match (k ∷ names) (l ∷ locals) → (IsLet x → Match names others) → IsLet (if b then Some k.kind else x)
       → Match (k ∷ names) (if b then record { name = l.name; bound = B.Number n } ∷ locals else l ∷ others)
   assigned true k l names locals others x n m more h = (m.0, set_suits k.kind n h, m.2)
   assigned false k l names locals others x n m more h = (m.0, m.1, more h)
 
-  assign_match : (names : List Known) (locals : List Local) (name : List ℕ) (n : ℕ) → Match names locals → IsLet (known_of names name) → Match names (assign locals name n)
+  assign_match : (names : List Known) (locals : List Local) (name : List ℕ) (n : ℕ) → Match names locals → IsLet (known_of names name)
+      → Match names (assign locals name n)
   assign_match [] [] name n m h = absurd h
   assign_match [] (l ∷ locals) name n m h = absurd m
   assign_match (k ∷ names) [] name n m h = absurd m
@@ -146,8 +152,11 @@ module _ (site : Site) (rights : List Access) (own : Option ℕ) where
   there (Some k) (Some b) f h = refl
 
   -- the local that is set is there
-  pub set_there : (s : Scope) (locals : List Local) (name : List ℕ) (place : Place) → Agree s locals → set_rule (kind_of s name) place ≡ [] → is_some (local_of locals name) ≡ true
-  set_there s locals name place a h = there (known_of s.names name) (local_of locals name) (local_found site rights own s.names locals name a.names) (is_let s name place h)
+  pub set_there : (s : Scope) (locals : List Local) (name : List ℕ) (place : Place) → Agree s locals → set_rule (kind_of s name) place ≡ []
+      → is_some (local_of locals name) ≡ true
+  set_there s locals name place a h = there (known_of s.names name) (local_of locals name)
+      (local_found site rights own s.names locals name a.names) (is_let s name place h)
 
-  pub agrees_set : (s : Scope) (locals : List Local) (name : List ℕ) (place : Place) (n : ℕ) → Agree s locals → set_rule (kind_of s name) place ≡ [] → Agree s (assign locals name n)
+  pub agrees_set : (s : Scope) (locals : List Local) (name : List ℕ) (place : Place) (n : ℕ) → Agree s locals
+      → set_rule (kind_of s name) place ≡ [] → Agree s (assign locals name n)
   agrees_set s locals name place n a h = agrees_again s locals _ a (assign_match s.names locals name n a.names (is_let s name place h))

@@ -16,7 +16,9 @@ use Rattle.kt_prog.proofs.Lists.{left_none, right_none, not_denied}
 some_same : (tasks : List Task) (x t : Target) → target_at tasks x.number ≡ Some x → Some x ≡ Some t → target_at tasks t.number ≡ Some t
 some_same tasks x t h e = let same : x ≡ t = cc in subst (λ (y : Target). target_at tasks y.number ≡ Some y) same h
 
-kernel_is : (tasks : List Task) (a b c d : Bool) (t : Target) → (if a then Some mul else if b then Some minplus else if c then Some stencil else if d then Some scan else None) ≡ Some t → target_at tasks t.number ≡ Some t
+kernel_is : (tasks : List Task) (a b c d : Bool) (t : Target)
+    → (if a then Some mul else if b then Some minplus else if c then Some stencil else if d then Some scan else None) ≡ Some t
+    → target_at tasks t.number ≡ Some t
 kernel_is tasks true b c d t h = some_same tasks mul t refl h
 kernel_is tasks false true c d t h = some_same tasks minplus t refl h
 kernel_is tasks false false true d t h = some_same tasks stencil t refl h
@@ -32,9 +34,11 @@ pub record Numbered (tasks : List Task) (first : ℕ) (t : Target) : Type 0 wher
 
 task_is : (tasks : List Task) (first : ℕ) (name : List ℕ) (t : Target) → task_named first tasks name ≡ Some t → Numbered tasks first t
 task_is [] first name t h = cc
-task_is (u ∷ tasks) first name t h = named (bytes_eq u.name name) u tasks first (task_named (suc first) tasks name) t (λ e. task_is tasks (suc first) name t e) h
+task_is (u ∷ tasks) first name t h = named (bytes_eq u.name name) u tasks first (task_named (suc first) tasks name) t
+    (λ e. task_is tasks (suc first) name t e) h
   where
-    named : (b : Bool) (u : Task) (tasks : List Task) (first : ℕ) (x : Option Target) (t : Target) → (x ≡ Some t → Numbered tasks (suc first) t) → (if b then Some (target first u) else x) ≡ Some t → Numbered (u ∷ tasks) first t
+    named : (b : Bool) (u : Task) (tasks : List Task) (first : ℕ) (x : Option Target) (t : Target)
+        → (x ≡ Some t → Numbered tasks (suc first) t) → (if b then Some (target first u) else x) ≡ Some t → Numbered (u ∷ tasks) first t
     named true u tasks first x t more h =
         let same : target first u ≡ t = cc in
         let num : first ≡ t.number = ap (λ (y : Target). y.number) same in
@@ -44,10 +48,12 @@ task_is (u ∷ tasks) first name t h = named (bytes_eq u.name name) u tasks firs
         let num : t.number ≡ suc first + n.k = n.number in
         record { k = suc n.k; below = omega (arith, n.below); number = omega (arith, num); is = n.is }
 
-pub few_tasks : (tasks : List Task) (before : ℕ) → count_rules before tasks ≡ [] → before ≤ DEFINITIONS → before + length tasks ≤ DEFINITIONS
+pub few_tasks : (tasks : List Task) (before : ℕ) → count_rules before tasks ≡ [] → before ≤ DEFINITIONS
+    → before + length tasks ≤ DEFINITIONS
 few_tasks [] before h le = omega arith
 few_tasks (t ∷ tasks) before h le =
-    let few : nat_eq before DEFINITIONS ≡ false = not_denied t.place P12 (nat_eq before DEFINITIONS) (left_none (denied t.place P12 (nat_eq before DEFINITIONS)) (count_rules (suc before) tasks) h) in
+    let few : nat_eq before DEFINITIONS ≡ false = not_denied t.place P12 (nat_eq before DEFINITIONS)
+    (left_none (denied t.place P12 (nat_eq before DEFINITIONS)) (count_rules (suc before) tasks) h) in
     let less : suc before ≤ DEFINITIONS = grind (arith, nat_tests) in
     omega (arith, few_tasks tasks (suc before) (right_none (denied t.place P12 (nat_eq before DEFINITIONS)) (count_rules (suc before) tasks) h) less)
 
@@ -58,12 +64,16 @@ named_at tasks t few n =
     let num : t.number ≡ suc n.k = omega (arith, n.number) in
     subst (λ (m : ℕ). target_at tasks m ≡ Some t) (sym num) (rw first n.is)
 
-pub target_is : (tasks : List Task) (name : List ℕ) (t : Target) → length tasks ≤ DEFINITIONS → target_of tasks name ≡ Some t → target_at tasks t.number ≡ Some t
+pub target_is : (tasks : List Task) (name : List ℕ) (t : Target) → length tasks ≤ DEFINITIONS → target_of tasks name ≡ Some t
+    → target_at tasks t.number ≡ Some t
 target_is tasks name t few h =
-    either (kernel_named name) (task_named 1 tasks name) (λ e. kernel_is tasks (bytes_eq (codes "k_mul") name) (bytes_eq (codes "k_minplus") name) (bytes_eq (codes "k_stencil") name) (bytes_eq (codes "k_scan") name) t e)
+    either (kernel_named name) (task_named 1 tasks name)
+    (λ e. kernel_is tasks (bytes_eq (codes "k_mul") name) (bytes_eq (codes "k_minplus") name) (bytes_eq (codes "k_stencil") name)
+    (bytes_eq (codes "k_scan") name) t e)
     (λ e. named_at tasks t few (task_is tasks 1 name t e)) h
   where
-    either : (x y : Option Target) → (x ≡ Some t → target_at tasks t.number ≡ Some t) → (y ≡ Some t → target_at tasks t.number ≡ Some t) → or_else x y ≡ Some t → target_at tasks t.number ≡ Some t
+    either : (x y : Option Target) → (x ≡ Some t → target_at tasks t.number ≡ Some t) → (y ≡ Some t → target_at tasks t.number ≡ Some t)
+        → or_else x y ≡ Some t → target_at tasks t.number ≡ Some t
     either None y f g e = g e
     either (Some x) y f g e = f e
 

@@ -29,14 +29,16 @@ use Rattle.kt_prog.proofs.Good.{Good, good_give, good_then, good_stop, good_test
 use Rattle.kt_prog.proofs.Lists.{left_none, right_none, not_denied, not_false, some_more}
 use Rattle.kt_prog.proofs.Matches.{HasRight, Found, LoopOk, FamiliesMatch, Agrees, looked}
 
-own_lemma : (o : Option ℕ) (b t : Bool) (mode : Mode) (i : ℕ) → (b && is_owned mode && not t) ≡ false → (site : Site) (rights : List Access) → LoopOk site rights o o b → (t ≡ true → o ≡ Some i) → Owns o mode i
+own_lemma : (o : Option ℕ) (b t : Bool) (mode : Mode) (i : ℕ) → (b && is_owned mode && not t) ≡ false → (site : Site) (rights : List Access)
+    → LoopOk site rights o o b → (t ≡ true → o ≡ Some i) → Owns o mode i
 own_lemma None b t mode i h site rights l k = tt
 own_lemma (Some j) b t mode i h site rights l k = λ w.
     let e : t ≡ true = not_false t (rw (l, w) at h) in
     let f : Some j ≡ Some i = k e in
     cc
 
-module _ (lost : Script → Script) (site : Site) (rights : List Access) (own : Option ℕ) (H : Job → Type 0) (fam : site.in_main ≡ true → FamiliesMatch site rights own) where
+module _ (lost : Script → Script) (site : Site) (rights : List Access) (own : Option ℕ) (H : Job → Type 0)
+    (fam : site.in_main ≡ true → FamiliesMatch site rights own) where
   abbrev pub D : Act → Type 0
   D = Allowed site.families rights own
 
@@ -48,10 +50,12 @@ module _ (lost : Script → Script) (site : Site) (rights : List Access) (own : 
   view_of locals line = record { site = site; locals = locals; line = line }
 
   pub record KeepsExpr (r : ExprRules) (m : ExprMeaning) : Type 0 where
-    pub good : (s : Scope) (locals : List Local) (line : ℕ) → Agrees site rights own s locals → r.breaches s ≡ [] → Good D H (OwnAt s r.bare) (m (view_of locals line))
+    pub good : (s : Scope) (locals : List Local) (line : ℕ) → Agrees site rights own s locals → r.breaches s ≡ []
+        → Good D H (OwnAt s r.bare) (m (view_of locals line))
 
   -- a name used as a number is found as a number, the index as the index
-  number_found : (kind : Option Kind) (bound : Option Bound) (place : Place) → number_rule kind place ≡ [] → Found site rights own kind bound → Good D H (λ n. is_index kind ≡ true → own ≡ Some n) (number_in lost bound)
+  number_found : (kind : Option Kind) (bound : Option Bound) (place : Place) → number_rule kind place ≡ []
+      → Found site rights own kind bound → Good D H (λ n. is_index kind ≡ true → own ≡ Some n) (number_in lost bound)
   number_found None bound place h f = cc
   number_found (Some (One mode)) bound place h f = cc
   number_found (Some (Many mode)) bound place h f = cc
@@ -72,7 +76,8 @@ module _ (lost : Script → Script) (site : Site) (rights : List Access) (own : 
   abbrev pub IsObject : (Mode → Breaches) → ℕ → Type 0
   IsObject rule o = (mode : Mode) × (rule mode ≡ []) × HasRight site rights own mode o (suc o)
 
-  pub element_found : (rule : Mode → Breaches) (kind : Option Kind) (bound : Option Bound) (place : Place) → element_rule rule kind place ≡ [] → Found site rights own kind bound → Good D H (IsObject rule) (object_in lost bound)
+  pub element_found : (rule : Mode → Breaches) (kind : Option Kind) (bound : Option Bound) (place : Place)
+      → element_rule rule kind place ≡ [] → Found site rights own kind bound → Good D H (IsObject rule) (object_in lost bound)
   element_found rule None bound place h f = cc
   element_found rule (Some Number) bound place h f = cc
   element_found rule (Some Variable) bound place h f = cc
@@ -84,14 +89,16 @@ module _ (lost : Script → Script) (site : Site) (rights : List Access) (own : 
   element_found rule (Some (One mode)) (Some (B.Many lo hi)) place h f = absurd f
 
   -- an act on such an object is allowed
-  pub allowed : (mode : Mode) (object i : ℕ) (deed : Deed) → nat_lt i (width_of site.families object) ≡ true → lets mode deed ≡ true → Owns own mode i → HasRight site rights own mode object (suc object) → D (record { object = object; element = i; deed = deed })
+  pub allowed : (mode : Mode) (object i : ℕ) (deed : Deed) → nat_lt i (width_of site.families object) ≡ true → lets mode deed ≡ true
+      → Owns own mode i → HasRight site rights own mode object (suc object) → D (record { object = object; element = i; deed = deed })
   allowed mode object i deed lt l o r = (
     grind (arith, nat_tests),
     some_more (λ (a : Access). (a.lo ≤ object) × (suc object ≤ a.hi) × (a.mode ≡ mode)) (Permits own (record { object = object; element = i; deed = deed }))
         (λ a h. (h.0, omega arith, subst (λ (m : Mode). lets m deed ≡ true) (sym h.2) l, subst (λ (m : Mode). Owns own m i) (sym h.2) o)) rights r,
   )
 
-  pub owned : (s : Scope) (locals : List Local) (bare : Option (List ℕ)) (place : Place) (mode : Mode) (i : ℕ) → Agrees site rights own s locals → own_rule s bare place mode ≡ [] → OwnAt s bare i → Owns own mode i
+  pub owned : (s : Scope) (locals : List Local) (bare : Option (List ℕ)) (place : Place) (mode : Mode) (i : ℕ)
+      → Agrees site rights own s locals → own_rule s bare place mode ≡ [] → OwnAt s bare i → Owns own mode i
   owned s locals bare place mode i a h o = own_lemma own s.in_loop (at_index s bare) mode i (not_denied place P11 _ h) site rights a.loop o
 
   pub applied_good : (x : Option ℕ) (line : ℕ) → Good D H (λ (n : ℕ). Unit {0}) (applied x line)
@@ -101,7 +108,8 @@ module _ (lost : Script → Script) (site : Site) (rights : List Access) (own : 
   pub forget : {A : Type 0} (P : A → Type 0) (m : Step A) → Good D H (λ (x : A). Unit {0}) m → ((x : A) → P x) → Good D H P m
   forget P m g h = record { keeps = λ go k. g.keeps go (λ x u. k x (h x)) }
 
-  expr_layer : (y : Expr-F ((e : Expr) × KeepsExpr (rules_of e) (value_of lost e))) → KeepsExpr (expr_rules (map-Expr _ _ rules_of (map-Expr _ _ (λ e. e.0) y))) (expr_step lost (map-Expr _ _ (value_of lost) (map-Expr _ _ (λ e. e.0) y)))
+  expr_layer : (y : Expr-F ((e : Expr) × KeepsExpr (rules_of e) (value_of lost e)))
+      → KeepsExpr (expr_rules (map-Expr _ _ rules_of (map-Expr _ _ (λ e. e.0) y))) (expr_step lost (map-Expr _ _ (value_of lost) (map-Expr _ _ (λ e. e.0) y)))
   expr_layer (E.Num n) = record { good = λ s locals line a h. good_give D H (OwnAt s None) n (λ e. cc) }
   expr_layer (E.Var name place) = record {
     good = λ s locals line a h.
@@ -111,7 +119,9 @@ module _ (lost : Script → Script) (site : Site) (rights : List Access) (own : 
     good = λ s locals line a h.
         let r = rules_of at.0 in
         let rule = load_rule s r.bare place in
-        good_then D H (IsObject rule) (OwnAt s None) _ _ (element_found rule (kind_of s name) (bound_of site locals name) place (left_none _ _ h) (looked site rights own fam s locals name a)) (λ o f.
+        good_then D H (IsObject rule) (OwnAt s None) _ _
+        (element_found rule (kind_of s name) (bound_of site locals name) place (left_none _ _ h)
+        (looked site rights own fam s locals name a)) (λ o f.
         good_then D H (OwnAt s r.bare) (OwnAt s None) _ _ (at.1.good s locals line a (right_none _ _ h)) (λ i w.
         good_then D H (λ _. nat_lt i (width_of site.families o) ≡ true) (OwnAt s None) _ _ (good_test D H _ F2 line) (λ _ lt.
         forget (OwnAt s None) _ (good_load D H o i
@@ -128,4 +138,8 @@ module _ (lost : Script → Script) (site : Site) (rights : List Access) (own : 
   pub expr_keeps : (e : Expr) → KeepsExpr (rules_of e) (value_of lost e)
   expr_keeps = ind-Expr (λ e. KeepsExpr (rules_of e) (value_of lost e)) (λ x y is.
       subst (λ (z : Expr-F Expr). KeepsExpr (rules_of (roll-Expr z)) (value_of lost (roll-Expr z))) is
-      (rw (fold-roll-Expr ExprRules expr_rules (map-Expr _ _ (λ e. e.0) y), fold-roll-Expr ExprMeaning (expr_step lost) (map-Expr _ _ (λ e. e.0) y)) (expr_layer y)))
+      (rw (
+        fold-roll-Expr ExprRules expr_rules (map-Expr _ _ (λ e. e.0) y),
+        fold-roll-Expr ExprMeaning (expr_step lost)
+            (map-Expr _ _ (λ e. e.0) y),
+      ) (expr_layer y)))

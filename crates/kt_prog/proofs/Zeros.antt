@@ -35,7 +35,8 @@ module _ (families : List Family) (rights : List Access) (H : Job → Type 0) wh
       good_then _ H Nothing Nothing _ _ (zeros_from object 0 (width_of families object) (may object (omega arith) (omega arith)) (omega arith))
       (λ _ _. zeros_objects (suc object) n (λ k le lt. may k (omega arith) (omega arith)))
 
-  zeros_access : (a : Access) (mode : Mode) → a.mode ≡ mode → ((P : Access → Type 0) → P a → SomeOf P rights) → GoodAt Nothing (zero_access families a mode)
+  zeros_access : (a : Access) (mode : Mode) → a.mode ≡ mode → ((P : Access → Type 0) → P a → SomeOf P rights)
+      → GoodAt Nothing (zero_access families a mode)
   zeros_access a M.W is among = zeros_objects a.lo (a.hi - a.lo) (λ k le lt e. among _ (le, omega arith, rw is refl, tt))
   zeros_access a M.R is among = good_give _ H Nothing tt tt
   zeros_access a M.X is among = good_give _ H Nothing tt tt
@@ -45,7 +46,8 @@ module _ (families : List Family) (rights : List Access) (H : Job → Type 0) wh
   zeros_access a M.Xp is among = good_give _ H Nothing tt tt
   zeros_access a (M.Cwp op) is among = good_give _ H Nothing tt tt
 
-  pub zeros_all : (accesses : List Access) → ((P : Access → Type 0) → SomeOf P accesses → SomeOf P rights) → GoodAt Nothing (zero_all families accesses)
+  pub zeros_all : (accesses : List Access) → ((P : Access → Type 0) → SomeOf P accesses → SomeOf P rights)
+      → GoodAt Nothing (zero_all families accesses)
   zeros_all [] among = good_give _ H Nothing tt tt
   zeros_all (a ∷ accesses) among =
       good_then _ H Nothing Nothing _ _ (zeros_access a a.mode refl (λ P p. among P (inl p))) (λ _ _. zeros_all accesses (λ P s. among P (inr s)))

@@ -41,7 +41,7 @@ module _ (families : List Family) where
   has object n = nat_le n (width_of families object)
 
   -- an n by p tile of a and a p by q tile of b, and what f makes of them for an n by q tile of c
-  abbrev pub product : (ℕ → ℕ → ℕ → List ℕ → List ℕ → List ℕ) → (ℕ → Deed) → ℕ → ℕ → ℕ → ℕ → ℕ → ℕ → Step (Unit {0})
+  abbrev pub product : (ℕ → ℕ → ℕ → List ℕ → List ℕ → List ℕ) → (ℕ → Deed) → (n p q : ℕ) → (a b c : ℕ) → Step (Unit {0})
   product f deed n p q a b c = do
     tested (is_side n && is_side p && is_side q && has a (n * p) && has b (p * q) && has c (n * q)) F2 0
     xs ← load_all a 0 (n * p)
@@ -73,9 +73,11 @@ module _ (families : List Family) where
   -- the four by their numbers from 0 on, with the ints and the objects of their calls in order
   abbrev pub kernel_body : ℕ → List ℕ → List Access → Step (Unit {0})
   kernel_body zero ints accesses =
-      product mul_of (Fold Add) (slice_index ints 0) (slice_index ints 1) (slice_index ints 2) (object_at accesses 0) (object_at accesses 1) (object_at accesses 2)
+      product mul_of (Fold Add) (slice_index ints 0) (slice_index ints 1) (slice_index ints 2)
+      (object_at accesses 0) (object_at accesses 1) (object_at accesses 2)
   kernel_body (suc zero) ints accesses =
-      product minplus_of (Fold Min) (slice_index ints 0) (slice_index ints 1) (slice_index ints 2) (object_at accesses 0) (object_at accesses 1) (object_at accesses 2)
+      product minplus_of (Fold Min) (slice_index ints 0) (slice_index ints 1) (slice_index ints 2)
+      (object_at accesses 0) (object_at accesses 1) (object_at accesses 2)
   kernel_body (suc (suc zero)) ints accesses =
       stencil_body (slice_index ints 0) (object_at accesses 0) (object_at accesses 1) (object_at accesses 2) (object_at accesses 3)
   kernel_body (suc (suc (suc k))) ints accesses =

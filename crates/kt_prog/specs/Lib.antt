@@ -11,6 +11,7 @@ pub mod Statements
 pub mod Zeroing
 pub mod Kernels
 pub mod Bodies
+pub mod Operations
 pub mod Scope
 pub mod Rules
 pub mod ForkRules
@@ -25,4 +26,5 @@ pub mod Reference
 pub mod Runs
 pub mod Entries
 pub mod Outcome
+pub mod LastWriter
 pub mod Laws

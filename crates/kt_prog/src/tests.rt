@@ -1,7 +1,7 @@
 ghost use Rattle.std.specs.Prelude.{◌≡◌, ◌<◌, ◌^◌, IfOk};
 ghost use Rattle.kt_prog.specs.Objects.{elements_of, objects_of};
 
-use crate::{Family, Name, Program, elements, first_element, inputs, objects, width};
+use crate::{Family, NAMES, Name, PATH, Program, elements, first_element, inputs, objects, width};
 use kt_law::Place;
 use sqlite_items::Items;
 use std::alloc::{AllocError, Global};
@@ -14,6 +14,13 @@ fn a_name_is_its_bytes(rt: HostRuntime) {
     assert_eq!(rt; name.as_str(), "k_mul");
     assert!(rt; name.is(&name.copied()));
     assert!(rt; !name.is(&Name::new(b"k_mu")));
+}
+
+#[test]
+fn limits_are_those_of_the_language(rt: HostRuntime) {
+    // 8 ints, 8 objects, an index, and 64 `let` and `for` names
+    assert_eq!(rt; NAMES, 81);
+    assert_eq!(rt; PATH, 32);
 }
 
 // `object A[4] of 3 input; object B of 2;`
