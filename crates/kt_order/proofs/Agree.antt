@@ -39,7 +39,8 @@ module _ (m : Machine) (rights : Rights m) (l : Laws m rights) where
   no_top : (P : Task m → Type 0) (q : Place) (F : Forest m) → F ≡ Nil → Top m P q F → ⊥
   no_top P q F e top = subst (Top m P q) e top
 
-  top_way : (d : m.Call) (q : Place) (F : Forest m) → Shape m rights F → At m (λ u kids. IsUnderWay m u × (u.call ≡ d)) q F → Top m (Way d) q F
+  top_way : (d : m.Call) (q : Place) (F : Forest m) → Shape m rights F → At m (λ u kids. IsUnderWay m u × (u.call ≡ d)) q F
+      → Top m (Way d) q F
   top_way d q Nil sh at = at
   top_way d Here (Node u kids later) sh at = (at.0, inl at.1)
   top_way d (Down q) (Node u kids later) sh at =
@@ -67,7 +68,8 @@ module _ (m : Machine) (rights : Rights m) (l : Laws m rights) where
     both_apart c d e f over over' apart = below.turned f e (over_apart d e f over' (below.turned e d (over_apart c d e over apart)))
 
     -- a task of a frame, and one at or below a later task of it
-    later_apart : (c d : m.Call) (u : Task m) (later : Forest m) (b : Place) → Way c u → AllTasks m (Beside m rights u) later → Top m (Way d) b later → rights.Apart c d
+    later_apart : (c d : m.Call) (u : Task m) (later : Forest m) (b : Place) → Way c u → AllTasks m (Beside m rights u) later
+        → Top m (Way d) b later → rights.Apart c d
     later_apart c d u later b way all top =
         let k = top_pick m (Beside m rights u) (Way d) b later all top in
         elim k.1 [
@@ -79,7 +81,8 @@ module _ (m : Machine) (rights : Rights m) (l : Laws m rights) where
     abbrev AtWay : m.Call → Place → Forest m → Type 0
     AtWay c q F = At m (λ u kids. IsUnderWay m u × (u.call ≡ c)) q F
 
-    agree : (c d : m.Call) (a b : Place) (F : Forest m) → Shape m rights F → Separate a b → AtWay c a F → AtWay d b F → rights.Apart c d
+    agree : (c d : m.Call) (a b : Place) (F : Forest m) → Shape m rights F → Separate a b → AtWay c a F → AtWay d b F
+        → rights.Apart c d
     agree c d a b Nil sh apart x y = absurd x
     agree c d Here Here (Node u kids later) sh apart x y = absurd apart
     agree c d Here (Down b) (Node u kids later) sh apart x y = absurd apart
@@ -92,7 +95,8 @@ module _ (m : Machine) (rights : Rights m) (l : Laws m rights) where
     agree c d (Later a) (Later b) (Node u kids later) sh apart x y = agree c d a b later sh.3 apart x y
 
     -- two tasks under way, neither above the other, are apart
-    pub side_by_side : (F : Forest m) → Shape m rights F → (a b : Place) (u v : Task m) → Separate a b → Stands m u a F → Stands m v b F → IsUnderWay m u → IsUnderWay m v → rights.Apart u.call v.call
+    pub side_by_side : (F : Forest m) → Shape m rights F → (a b : Place) (u v : Task m) → Separate a b → Stands m u a F
+        → Stands m v b F → IsUnderWay m u → IsUnderWay m v → rights.Apart u.call v.call
     side_by_side F sh a b u v apart x y wu wv = agree u.call v.call a b F sh apart (stands_way u a F x wu) (stands_way v b F y wv)
       where
         stands_way : (u : Task m) (q : Place) (F : Forest m) → Stands m u q F → IsUnderWay m u → AtWay u.call q F
@@ -115,7 +119,8 @@ module _ (m : Machine) (rights : Rights m) (l : Laws m rights) where
   abbrev GoesPast : m.Call → Task m → Type 0
   GoesPast d u = HandedDown m rights u.call d × Acts m (Past m rights d) (left m u)
 
-  goes_past : (d : m.Call) (u : Task m) (a b : Place) (F : Forest m) → Shape m rights F → IsAbove a b → Stands m u a F → At m (λ v kids. v.call ≡ d) b F → GoesPast d u
+  goes_past : (d : m.Call) (u : Task m) (a b : Place) (F : Forest m) → Shape m rights F → IsAbove a b → Stands m u a F
+      → At m (λ v kids. v.call ≡ d) b F → GoesPast d u
   goes_past d u a b Nil sh above x y = absurd x
   goes_past d u Here Here (Node v kids later) sh above x y = absurd above
   goes_past d u Here (Down b) (Node v kids later) sh above x y =
@@ -132,5 +137,6 @@ module _ (m : Machine) (rights : Rights m) (l : Laws m rights) where
   goes_past d u (Later a) (Down b) (Node v kids later) sh above x y = absurd above
   goes_past d u (Later a) (Later b) (Node v kids later) sh above x y = goes_past d u a b later sh.3 above x y
 
-  pub upper_goes_past : (F : Forest m) → Shape m rights F → (a b : Place) (u v : Task m) → IsAbove a b → Stands m u a F → Stands m v b F → GoesPast v.call u
+  pub upper_goes_past : (F : Forest m) → Shape m rights F → (a b : Place) (u v : Task m) → IsAbove a b → Stands m u a F
+      → Stands m v b F → GoesPast v.call u
   upper_goes_past F sh a b u v above x y = goes_past v.call u a b F sh above x (at_more m (λ w kids. w ≡ v) (λ w kids. w.call ≡ v.call) (λ w kids e. ap (λ (t : Task m). t.call) e) b F y)

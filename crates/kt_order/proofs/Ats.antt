@@ -12,19 +12,23 @@ module _ (m : Machine) where
   abbrev pub Doing : Code m → Task m → Forest m → Type 0
   Doing w u kids = (u.phase ≡ Running) × (left m u ≡ w)
 
-  pub at_more : (A B : Task m → Forest m → Type 0) → ((u : Task m) (kids : Forest m) → A u kids → B u kids) → (q : Place) (F : Forest m) → At m A q F → At m B q F
+  pub at_more : (A B : Task m → Forest m → Type 0) → ((u : Task m) (kids : Forest m) → A u kids → B u kids)
+      → (q : Place) (F : Forest m) → At m A q F → At m B q F
   at_more A B f q Nil at = at
   at_more A B f Here (Node u kids later) at = f u kids at
   at_more A B f (Down q) (Node u kids later) at = at_more A B f q kids at
   at_more A B f (Later q) (Node u kids later) at = at_more A B f q later at
 
-  frame_more : (A : Task m → Forest m → Type 0) (P Q : Task m → Type 0) → ((u : Task m) (kids : Forest m) → A u kids → P u → Q u) → (q : Place) (F : Forest m) → At m A q F → AtFrame m P q F → AtFrame m Q q F
+  frame_more : (A : Task m → Forest m → Type 0) (P Q : Task m → Type 0) → ((u : Task m) (kids : Forest m) → A u kids → P u → Q u)
+      → (q : Place) (F : Forest m) → At m A q F → AtFrame m P q F → AtFrame m Q q F
   frame_more A P Q f q Nil at fr = tt
   frame_more A P Q f Here (Node u kids later) at fr = f u kids at fr
   frame_more A P Q f (Down q) (Node u kids later) at fr = tt
   frame_more A P Q f (Later q) (Node u kids later) at fr = frame_more A P Q f q later at fr
 
-  pub before_more : (A : Task m → Forest m → Type 0) (R Q : Task m → Task m → Type 0) → ((u v : Task m) (kids : Forest m) → A v kids → R u v → Q u v) → (q : Place) (F : Forest m) → At m A q F → Before m R q F → Before m Q q F
+  pub before_more : (A : Task m → Forest m → Type 0) (R Q : Task m → Task m → Type 0)
+      → ((u v : Task m) (kids : Forest m) → A v kids → R u v → Q u v) → (q : Place) (F : Forest m) → At m A q F → Before m R q F
+      → Before m Q q F
   before_more A R Q f q Nil at b = tt
   before_more A R Q f Here (Node u kids later) at b = tt
   before_more A R Q f (Down q) (Node u kids later) at b = before_more A R Q f q kids at b
@@ -44,7 +48,8 @@ module _ (m : Machine) where
   before_any (Later q) (Node u kids later) = (frame_all (λ v. Unit {0}) (λ v. tt) q later, before_any q later)
 
   -- the body at a place is the one found there
-  pub at_left : (A : Task m → Forest m → Type 0) (q : Place) (F : Forest m) → At m A q F → At m (λ u kids. A u kids × (left m u ≡ left_at m q F)) q F
+  pub at_left : (A : Task m → Forest m → Type 0) (q : Place) (F : Forest m) → At m A q F
+      → At m (λ u kids. A u kids × (left m u ≡ left_at m q F)) q F
   at_left A q Nil at = at
   at_left A Here (Node u kids later) at = (at, refl)
   at_left A (Down q) (Node u kids later) at = at_left A q kids at
@@ -56,11 +61,13 @@ module _ (m : Machine) where
   at_says X (Down q) (Node u kids later) at = at_says X q kids at
   at_says X (Later q) (Node u kids later) at = at_says X q later at
 
-  pub still_claimed : (q : Place) (F : Forest m) → At m (λ u kids. u.phase ≡ Unclaimed) q F → At m (λ u kids. (n : ℕ) → still m Running n ≡ still m u.phase n) q F
+  pub still_claimed : (q : Place) (F : Forest m) → At m (λ u kids. u.phase ≡ Unclaimed) q F
+      → At m (λ u kids. (n : ℕ) → still m Running n ≡ still m u.phase n) q F
   still_claimed q F at = at_more (λ u kids. u.phase ≡ Unclaimed) (λ u kids. (n : ℕ) → still m Running n ≡ still m u.phase n) (λ u kids a n. rw a refl) q F at
 
   -- each task has its law
-  pub at_shape : (rights : Rights m) (A : Task m → Forest m → Type 0) (q : Place) (F : Forest m) → Shape m rights F → At m A q F → At m (λ u kids. A u kids × TaskOk m rights u kids) q F
+  pub at_shape : (rights : Rights m) (A : Task m → Forest m → Type 0) (q : Place) (F : Forest m) → Shape m rights F → At m A q F
+      → At m (λ u kids. A u kids × TaskOk m rights u kids) q F
   at_shape rights A q Nil sh at = at
   at_shape rights A Here (Node u kids later) sh at = (at, sh.0)
   at_shape rights A (Down q) (Node u kids later) sh at = at_shape rights A q kids sh.2 at
@@ -84,20 +91,23 @@ module _ (m : Machine) where
   at_not_nil P q (Node u kids later) at e = cc
 
   -- the task at the place, with its children
-  pub at_some : (P : Task m → Forest m → Type 0) (q : Place) (F : Forest m) → At m P q F → (u : Task m) × (kids : Forest m) × P u kids × At m (λ v below. (v ≡ u) × (below ≡ kids)) q F
+  pub at_some : (P : Task m → Forest m → Type 0) (q : Place) (F : Forest m) → At m P q F
+      → (u : Task m) × (kids : Forest m) × P u kids × At m (λ v below. (v ≡ u) × (below ≡ kids)) q F
   at_some P q Nil at = absurd at
   at_some P Here (Node u kids later) at = (u, kids, at, (refl, refl))
   at_some P (Down q) (Node u kids later) at = at_some P q kids at
   at_some P (Later q) (Node u kids later) at = at_some P q later at
 
-  pub at_both : (P Q : Task m → Forest m → Type 0) (q : Place) (F : Forest m) → At m P q F → At m Q q F → At m (λ u kids. P u kids × Q u kids) q F
+  pub at_both : (P Q : Task m → Forest m → Type 0) (q : Place) (F : Forest m) → At m P q F → At m Q q F
+      → At m (λ u kids. P u kids × Q u kids) q F
   at_both P Q q Nil x y = absurd x
   at_both P Q Here (Node u kids later) x y = (x, y)
   at_both P Q (Down q) (Node u kids later) x y = at_both P Q q kids x y
   at_both P Q (Later q) (Node u kids later) x y = at_both P Q q later x y
 
   -- two changes at one place
-  pub change_twice : (f f' : Task m → Task m) (g g' : Forest m → Forest m) (q : Place) (F : Forest m) → change m f' g' q (change m f g q F) ≡ change m (λ u. f' (f u)) (λ k. g' (g k)) q F
+  pub change_twice : (f f' : Task m → Task m) (g g' : Forest m → Forest m) (q : Place) (F : Forest m)
+      → change m f' g' q (change m f g q F) ≡ change m (λ u. f' (f u)) (λ k. g' (g k)) q F
   change_twice f f' g g' q Nil = refl
   change_twice f f' g g' Here (Node u kids later) = refl
   change_twice f f' g g' (Down q) (Node u kids later) = ap (λ k. Node u k later) (change_twice f f' g g' q kids)

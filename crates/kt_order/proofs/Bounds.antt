@@ -21,12 +21,14 @@ module _ (m : Machine) where
     pub under : AllOf (λ d. Acts m (E d) st.left) st.forks
     pub stops : st.over ≡ true → IsStop st.left
 
-  pub hearing_bound : (P : Standing m → Type 0) (T : m.Answer → List m.Answer → Option (Standing m)) (st : Standing m) (b : Bool) (answers : List m.Answer) → ((a : m.Answer) (more : List m.Answer) → T a more ≡ Some st → P st) → hearing m b None T answers ≡ Some st → P st
+  pub hearing_bound : (P : Standing m → Type 0) (T : m.Answer → List m.Answer → Option (Standing m)) (st : Standing m) (b : Bool) (answers : List m.Answer)
+      → ((a : m.Answer) (more : List m.Answer) → T a more ≡ Some st → P st) → hearing m b None T answers ≡ Some st → P st
   hearing_bound P T st true [] h e = cc
   hearing_bound P T st true (a ∷ more) h e = h a more e
   hearing_bound P T st false answers h e = h m.none answers e
 
-  acts_stand : (P : m.Act → Type 0) (w : Code m) (answers : List m.Answer) (n : ℕ) (st : Standing m) → Acts m P w → stand m w answers n ≡ Some st → Acts m P st.left
+  acts_stand : (P : m.Act → Type 0) (w : Code m) (answers : List m.Answer) (n : ℕ) (st : Standing m) → Acts m P w
+      → stand m w answers n ≡ Some st → Acts m P st.left
   acts_stand P w answers zero st h e = subst (λ (s : Standing m). Acts m P s.left) (sym (stand_none m w answers st e).1) h
   acts_stand P (Stop f) [] (suc zero) st h e = subst (λ (s : Standing m). Acts m P s.left) (some_is m (record { left = Stop f; forks = []; over = true }) st e) tt
   acts_stand P (Stop f) [] (suc (suc n)) st h e = cc
@@ -36,7 +38,8 @@ module _ (m : Machine) where
       let s = fork_some m d (stand m w answers n) st e in
       subst (λ (x : Standing m). Acts m P x.left) (sym s.2) (acts_stand P w answers n s.0 h s.1)
 
-  pub bounded : (D : m.Act → Type 0) (H : m.Call → Type 0) (E : m.Call → m.Act → Type 0) (w : Code m) (answers : List m.Answer) (n : ℕ) (st : Standing m) → Within m D H E w → stand m w answers n ≡ Some st → Bounded D H E st
+  pub bounded : (D : m.Act → Type 0) (H : m.Call → Type 0) (E : m.Call → m.Act → Type 0) (w : Code m) (answers : List m.Answer) (n : ℕ) (st : Standing m)
+      → Within m D H E w → stand m w answers n ≡ Some st → Bounded D H E st
   bounded D H E w answers zero st h e = subst (Bounded D H E) (sym (stand_none m w answers st e).1) (record { within = h; handed = tt; under = tt; stops = λ f. cc })
   bounded D H E (Stop f) [] (suc zero) st h e = subst (Bounded D H E) (some_is m (record { left = Stop f; forks = []; over = true }) st e) (record { within = tt; handed = tt; under = tt; stops = λ f. tt })
   bounded D H E (Stop f) [] (suc (suc n)) st h e = cc

@@ -16,17 +16,21 @@ use Rattle.kt_order.proofs.Ats.{Top, top_pick, at_not_nil}
 use Rattle.kt_order.proofs.Rests.{Clear}
 
 module _ (m : Machine) where
-  alone_stop : (w : Code m) → IsStop m w → (s : m.Store) → alone m w s ≡ record { store = s; answers = []; forks = []; fault = fault_of m w; steps = 1 }
+  alone_stop : (w : Code m) → IsStop m w → (s : m.Store)
+      → alone m w s ≡ record { store = s; answers = []; forks = []; fault = fault_of m w; steps = 1 }
   alone_stop (Stop f) h s = refl
   alone_stop (Do p k) h s = absurd h
   alone_stop (Fork c w) h s = absurd h
 
-  one_settled : (u : Task m) → u.phase ≡ Finished → IsStop m (left m u) → (K : m.Store → Run m) (es : List (Entry m)) → ((s : m.Store) → K s ≡ record { store = s; entries = es }) → (s : m.Store) → rest_of_one m u K s ≡ record { store = s; entries = record { call = u.call; answers = u.answers; fault = fault_of m (left m u); steps = u.done } ∷ es }
+  one_settled : (u : Task m) → u.phase ≡ Finished → IsStop m (left m u) → (K : m.Store → Run m) (es : List (Entry m))
+      → ((s : m.Store) → K s ≡ record { store = s; entries = es }) → (s : m.Store)
+      → rest_of_one m u K s ≡ record { store = s; entries = record { call = u.call; answers = u.answers; fault = fault_of m (left m u); steps = u.done } ∷ es }
   one_settled u fin stop K es k s = rw (alone_stop (left m u) stop s, k s, append-nil es, append-nil u.answers, fin, add-zero u.done) refl
 
   module _ (rights : Rights m) (l : Laws m rights) where
     -- nothing is left of what is finished
-    pub rest_settled : (F : Forest m) → Shape m rights F → AllFinished m F → (s : m.Store) → rest m F s ≡ record { store = s; entries = settled m F }
+    pub rest_settled : (F : Forest m) → Shape m rights F → AllFinished m F → (s : m.Store)
+        → rest m F s ≡ record { store = s; entries = settled m F }
     rest_settled Nil sh fin s = refl
     rest_settled (Node u kids later) sh fin s =
         let ok = finished_ok m rights l u kids sh.0 fin.0 in
@@ -50,7 +54,8 @@ module _ (m : Machine) where
       top_above (Later q) (Node u kids later) sh at = top_above q later sh.3 at
 
       -- an earlier entry, beside which v may be under way, with those below it
-      one_clear : (u v : Task m) (kids : Forest m) → TaskOk m rights u kids → Shape m rights kids → Beside m rights u v → Above v → Passes m p (rest_of_one m u (rest m kids))
+      one_clear : (u v : Task m) (kids : Forest m) → TaskOk m rights u kids → Shape m rights kids → Beside m rights u v → Above v
+          → Passes m p (rest_of_one m u (rest m kids))
       one_clear u v kids ok sh (inl e) ab = absurd (ab.1 e)
       one_clear u v kids ok sh (inr (inl e)) ab =
           let fin = finished_ok m rights l u kids ok e in

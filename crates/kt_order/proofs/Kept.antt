@@ -21,11 +21,13 @@ module _ (m : Machine) (rights : Rights m) (l : Laws m rights) (root : m.Call) (
   IsLawful x = Lawful m rights root s x
 
   -- the task at the place, with its law
-  pub known : (w : Code m) (q : Place) (x : State m) → At m (Doing m w) q x.forest → IsLawful x → At m (λ u kids. Doing m w u kids × TaskOk m rights u kids) q x.forest
+  pub known : (w : Code m) (q : Place) (x : State m) → At m (Doing m w) q x.forest → IsLawful x
+      → At m (λ u kids. Doing m w u kids × TaskOk m rights u kids) q x.forest
   known w q x at h = at_shape m rights (Doing m w) q x.forest h.shape at
 
   -- the end of a body
-  kept_end : (f : Option m.Fault) (q : Place) (x : State m) → At m (Doing m (Stop f)) q x.forest → IsLawful x → IsLawful (operate m (Stop f) q x)
+  kept_end : (f : Option m.Fault) (q : Place) (x : State m) → At m (Doing m (Stop f)) q x.forest → IsLawful x
+      → IsLawful (operate m (Stop f) q x)
   kept_end f q x at h =
       let here = at_more m (λ u kids. Doing m (Stop f) u kids × TaskOk m rights u kids) (λ u kids. (u.phase ≡ Running) × (left m u ≡ Stop f) × (left m (put m (ended m) u) ≡ Stop f))
       (λ u kids a. (a.0.0, a.0.1, left_ended m rights l f u kids a.0.0 a.0.1 a.1)) q x.forest (known (Stop f) q x at h) in
@@ -36,7 +38,8 @@ module _ (m : Machine) (rights : Rights m) (l : Laws m rights) (root : m.Call) (
       }
 
   -- an act: all that comes before it in the sequential run lets it pass
-  kept_do : (p : m.Act) (k : m.Answer → Code m) (q : Place) (x : State m) → At m (Doing m (Do p k)) q x.forest → IsLawful x → IsLawful (operate m (Do p k) q x)
+  kept_do : (p : m.Act) (k : m.Answer → Code m) (q : Place) (x : State m) → At m (Doing m (Do p k)) q x.forest → IsLawful x
+      → IsLawful (operate m (Do p k) q x)
   kept_do p k q x at h =
       let a = m.answer p x.store in
       let quiet = l.quiet p x.store in
@@ -51,7 +54,8 @@ module _ (m : Machine) (rights : Rights m) (l : Laws m rights) (root : m.Call) (
         rest = rest_did m p k a q x.forest here (clear_of m rights l p q x.forest h.shape runs) x.store refl ∙ h.rest;
       }
 
-  kept_fork : (c : m.Call) (w : Code m) (q : Place) (x : State m) → At m (Doing m (Fork c w)) q x.forest → IsLawful x → IsLawful (operate m (Fork c w) q x)
+  kept_fork : (c : m.Call) (w : Code m) (q : Place) (x : State m) → At m (Doing m (Fork c w)) q x.forest → IsLawful x
+      → IsLawful (operate m (Fork c w) q x)
   kept_fork c w q x at h =
       let lawful = known (Fork c w) q x at h in
       let A = λ (u : Task m) (kids : Forest m). Doing m (Fork c w) u kids × TaskOk m rights u kids in
@@ -65,19 +69,22 @@ module _ (m : Machine) (rights : Rights m) (l : Laws m rights) (root : m.Call) (
       }
 
   -- the next operation of a running body
-  pub kept_operate : (w : Code m) (q : Place) (x : State m) → At m (Doing m w) q x.forest → IsLawful x → IsLawful (operate m w q x)
+  pub kept_operate : (w : Code m) (q : Place) (x : State m) → At m (Doing m w) q x.forest → IsLawful x
+      → IsLawful (operate m w q x)
   kept_operate (Stop f) q x at h = kept_end f q x at h
   kept_operate (Do p k) q x at h = kept_do p k q x at h
   kept_operate (Fork c w) q x at h = kept_fork c w q x at h
 
-  kept_claim : (q : Place) (x : State m) → At m (λ u kids. u.phase ≡ Unclaimed) q x.forest → Before m (MayPass m rights) q x.forest → IsLawful x → IsLawful (enter m Running q x)
+  kept_claim : (q : Place) (x : State m) → At m (λ u kids. u.phase ≡ Unclaimed) q x.forest
+      → Before m (MayPass m rights) q x.forest → IsLawful x → IsLawful (enter m Running q x)
   kept_claim q x at before h = record {
     alone = calls_change m (in_phase m Running) (same_frame m) q x.forest ∙ h.alone;
     shape = shape_claimed m rights l q x.forest at before h.shape;
     rest = rest_phase m Running q x.forest (still_claimed m q x.forest at) x.store ∙ h.rest;
   }
 
-  kept_finish : (q : Place) (x : State m) → At m (λ u kids. (u.phase ≡ Ended) × AllFinished m kids) q x.forest → IsLawful x → IsLawful (enter m Finished q x)
+  kept_finish : (q : Place) (x : State m) → At m (λ u kids. (u.phase ≡ Ended) × AllFinished m kids) q x.forest → IsLawful x
+      → IsLawful (enter m Finished q x)
   kept_finish q x at h =
       let here = at_more m (λ u kids. (u.phase ≡ Ended) × AllFinished m kids) (λ u kids. (n : ℕ) → still m Finished n ≡ still m u.phase n) (λ u kids a n. rw a.0 refl) q x.forest at in
       record {
@@ -98,7 +105,8 @@ module _ (m : Machine) (rights : Rights m) (l : Laws m rights) (root : m.Call) (
   opens fit = record { alone = refl; shape = (fresh_ok m rights l root fit, tt, tt, tt); rest = rest_fresh m rights l root fit s }
 
   -- a lawful state whose root is finished is that of the sequential run
-  pub whole_done : (x : State m) → IsLawful x → AllFinished m x.forest → whole m root s ≡ record { store = x.store; entries = settled m x.forest }
+  pub whole_done : (x : State m) → IsLawful x → AllFinished m x.forest
+      → whole m root s ≡ record { store = x.store; entries = settled m x.forest }
   whole_done x h done = sym h.rest ∙ rest_settled m rights l x.forest h.shape done x.store
 
   pub kept_run : (es : List Event) (x : State m) → Follows m rights es x → IsLawful x → IsLawful (run m es x)
@@ -106,5 +114,6 @@ module _ (m : Machine) (rights : Rights m) (l : Laws m rights) (root : m.Call) (
   kept_run (e ∷ es) x f h = kept_run es (step m e x) f.1 (kept e x f.0 h)
 
   -- every order of events gives the sequential run
-  pub any_order : rights.Fits root → (es : List Event) → Follows m rights es (opening m root s) → (let x = run m es (opening m root s) in AllFinished m x.forest → whole m root s ≡ record { store = x.store; entries = settled m x.forest })
+  pub any_order : rights.Fits root → (es : List Event) → Follows m rights es (opening m root s)
+      → (let x = run m es (opening m root s) in AllFinished m x.forest → whole m root s ≡ record { store = x.store; entries = settled m x.forest })
   any_order fit es f done = whole_done (run m es (opening m root s)) (kept_run es (opening m root s) f (opens fit)) done

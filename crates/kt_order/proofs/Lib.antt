@@ -15,6 +15,7 @@ pub mod Measure
 pub mod Shown
 pub mod Agree
 pub mod Phases
+pub mod Pieces
 pub mod Books
 pub mod Children
 pub mod LoopBooks

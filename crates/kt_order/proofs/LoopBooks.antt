@@ -15,14 +15,18 @@ use Rattle.kt_order.proofs.Phases.{AllUntaken, all_after}
 use Rattle.kt_order.proofs.Books.{can_untaken, book_splits, book_takes, book_retires, book_finishes, book_goes}
 
 module _ (m : Machine) (rights : Rights m) where
-  pub loop_splits : (x : State m) (q : Place) (b : Book) (at : ℕ) → LoopAt m rights b q x → LoopAt m rights (record { pieces = cut at b.pieces; unretired = b.unretired }) q x
+  pub loop_splits : (x : State m) (q : Place) (b : Book) (at : ℕ) → LoopAt m rights b q x
+      → LoopAt m rights (record { pieces = cut at b.pieces; unretired = b.unretired }) q x
   loop_splits x q b at here = at_more m (HasBook m rights b) (HasBook m rights (record { pieces = cut at b.pieces; unretired = b.unretired })) (λ u kids h. record { begun = h.begun; indexes = h.indexes; book = book_splits b (phases m kids) at h.book }) q x.forest here
 
-  pub loop_retires : (x : State m) (q : Place) (b : Book) (n : ℕ) → At m (λ u kids. HasBook m rights b u kids × (n + length (phases m kids) ≤ b.unretired + done_in (phases m kids))) q x.forest → LoopAt m rights (record { pieces = b.pieces; unretired = b.unretired - n }) q x
+  pub loop_retires : (x : State m) (q : Place) (b : Book) (n : ℕ)
+      → At m (λ u kids. HasBook m rights b u kids × (n + length (phases m kids) ≤ b.unretired + done_in (phases m kids))) q x.forest
+      → LoopAt m rights (record { pieces = b.pieces; unretired = b.unretired - n }) q x
   loop_retires x q b n here = at_more m (λ u kids. HasBook m rights b u kids × (n + length (phases m kids) ≤ b.unretired + done_in (phases m kids))) (HasBook m rights (record { pieces = b.pieces; unretired = b.unretired - n }))
       (λ u kids h. record { begun = h.0.begun; indexes = h.0.indexes; book = book_retires b (phases m kids) n h.1 h.0.book }) q x.forest here
 
-  pub loop_finishes : (x : State m) (q : Place) (b : Book) → LoopAt m rights b q x → b.unretired ≡ 0 → Enabled m rights (Finish q) x
+  pub loop_finishes : (x : State m) (q : Place) (b : Book) → LoopAt m rights b q x → b.unretired ≡ 0
+      → Enabled m rights (Finish q) x
   loop_finishes x q b here none = at_more m (HasBook m rights b) (λ u kids. (u.phase ≡ Ended) × AllFinished m kids) (λ u kids h. (h.begun, all_finished m kids (book_finishes b (phases m kids) h.book none))) q x.forest here
 
   -- until it can finish, it can go on
@@ -42,7 +46,9 @@ module _ (m : Machine) (rights : Rights m) where
   abbrev Begun : List m.Call → List Phase → Task m → Forest m → Type 0
   Begun cs phs u kids = (u.phase ≡ Ended) × (calls m kids ≡ cs) × (phases m kids ≡ phs)
 
-  claim_one : (cs : List m.Call) (phs : List Phase) (q : Place) (at : ℕ) (x : State m) → Pairwise m rights cs → untaken phs at ≡ 1 → At m (Begun cs phs) q x.forest → Enabled m rights (ClaimReady (child q at)) x × At m (Begun cs (set_phase at Running phs)) q (enter m Running (child q at) x).forest
+  claim_one : (cs : List m.Call) (phs : List Phase) (q : Place) (at : ℕ) (x : State m) → Pairwise m rights cs → untaken phs at ≡ 1
+      → At m (Begun cs phs) q x.forest
+      → Enabled m rights (ClaimReady (child q at)) x × At m (Begun cs (set_phase at Running phs)) q (enter m Running (child q at) x).forest
   claim_one cs phs q at x apart free here = (
     (
       at_child m (λ v below. v.phase ≡ Unclaimed) q at x.forest (at_more m (Begun cs phs) (λ u kids. At m (λ v below. v.phase ≡ Unclaimed) (nth_place at) kids) (λ u kids h. untaken_at m at kids (subst (λ xs. untaken xs at ≡ 1) (sym h.2) free)) q x.forest here),
@@ -56,14 +62,17 @@ module _ (m : Machine) (rights : Rights m) where
         )) q x.forest here),
   )
 
-  claims : (n at : ℕ) (cs : List m.Call) (phs : List Phase) (q : Place) (x : State m) → Pairwise m rights cs → AllUntaken at n phs → At m (Begun cs phs) q x.forest → Follows m rights (take_events q at n) x × At m (Begun cs (set_running at n phs)) q (run m (take_events q at n) x).forest
+  claims : (n at : ℕ) (cs : List m.Call) (phs : List Phase) (q : Place) (x : State m) → Pairwise m rights cs → AllUntaken at n phs
+      → At m (Begun cs phs) q x.forest
+      → Follows m rights (take_events q at n) x × At m (Begun cs (set_running at n phs)) q (run m (take_events q at n) x).forest
   claims zero at cs phs q x apart all here = (tt, here)
   claims (suc n) at cs phs q x apart all here =
       let one = claim_one cs phs q at x apart (all at (omega arith) (omega arith)) here in
       let more = claims n (suc at) cs (set_phase at Running phs) q (enter m Running (child q at) x) apart (all_after at n phs all) one.1 in
       ((one.0, more.0), more.1)
 
-  pub loop_takes : (x : State m) (q : Place) (b : Book) (at n : ℕ) → LoopAt m rights b q x → CanTake at n b.pieces → (let es = take_events q at n in Follows m rights es x × LoopAt m rights (record { pieces = take at n b.pieces; unretired = b.unretired }) q (run m es x))
+  pub loop_takes : (x : State m) (q : Place) (b : Book) (at n : ℕ) → LoopAt m rights b q x → CanTake at n b.pieces
+      → (let es = take_events q at n in Follows m rights es x × LoopAt m rights (record { pieces = take at n b.pieces; unretired = b.unretired }) q (run m es x))
   loop_takes x q b at n here can =
       let k = at_some m (HasBook m rights b) q x.forest here in
       let cs = calls m k.1 in

@@ -27,7 +27,8 @@ set_twice (suc i) ph first (x ∷ phs) = ap (λ xs. x ∷ xs) (set_twice i ph fi
 
 module _ (m : Machine) where
   -- a body that forks nothing has forked nothing
-  forks_none : (w : Code m) (answers : List m.Answer) (n : ℕ) (st : Standing m) → ForksNothing m w → stand m w answers n ≡ Some st → st.forks ≡ []
+  forks_none : (w : Code m) (answers : List m.Answer) (n : ℕ) (st : Standing m) → ForksNothing m w → stand m w answers n ≡ Some st
+      → st.forks ≡ []
   forks_none w answers zero st leaf e = ap (λ (t : Standing m). t.forks) (stand_none m w answers st e).1
   forks_none (Stop f) [] (suc zero) st leaf e = sym (ap (λ (t : Standing m). t.forks) (some_is m (record { left = Stop f; forks = []; over = true }) st e))
   forks_none (Stop f) [] (suc (suc n)) st leaf e = cc
@@ -35,7 +36,8 @@ module _ (m : Machine) where
   forks_none (Do p k) answers (suc n) st leaf e = hearing_bound m (λ t. t.forks ≡ []) (λ a more. stand m (k a) more n) st (m.asks p) answers (λ a more h. forks_none (k a) more n st (leaf a) h) e
   forks_none (Fork c w) answers (suc n) st leaf e = absurd leaf
 
-  leaf_at : (i : ℕ) (F : Forest m) (P : Task m → Forest m → Type 0) → AllOf (λ c. ForksNothing m (m.tree c)) (calls m F) → At m P (nth_place i) F → At m (λ v below. ForksNothing m (m.tree v.call)) (nth_place i) F
+  leaf_at : (i : ℕ) (F : Forest m) (P : Task m → Forest m → Type 0) → AllOf (λ c. ForksNothing m (m.tree c)) (calls m F)
+      → At m P (nth_place i) F → At m (λ v below. ForksNothing m (m.tree v.call)) (nth_place i) F
   leaf_at i Nil P all at = absurd at
   leaf_at zero (Node u kids later) P all at = all.0
   leaf_at (suc i) (Node u kids later) P all at = leaf_at i later P all.1 at
@@ -45,11 +47,13 @@ module _ (m : Machine) where
     abbrev Under : Book → ℕ → Task m → Forest m → Type 0
     Under b i u kids = HasBook m rights b u kids × (nth (phases m kids) i ≡ Some Running)
 
-    child_running : (b : Book) (q : Place) (i : ℕ) (F : Forest m) → At m (Under b i) q F → At m (λ v below. v.phase ≡ Running) (child q i) F
+    child_running : (b : Book) (q : Place) (i : ℕ) (F : Forest m) → At m (Under b i) q F
+        → At m (λ v below. v.phase ≡ Running) (child q i) F
     child_running b q i F at = at_child m (λ v below. v.phase ≡ Running) q i F (at_more m (Under b i) (λ u kids. At m (λ v below. v.phase ≡ Running) (nth_place i) kids) (λ u kids h. nth_at m i Running kids h.1) q F at)
 
     -- an index has no children
-    child_bare : (b : Book) (q : Place) (i : ℕ) (F : Forest m) → Shape m rights F → At m (Under b i) q F → At m (λ v below. below ≡ Nil) (child q i) F
+    child_bare : (b : Book) (q : Place) (i : ℕ) (F : Forest m) → Shape m rights F → At m (Under b i) q F
+        → At m (λ v below. below ≡ Nil) (child q i) F
     child_bare b q i F sh at =
         let leaf = at_child m (λ v below. ForksNothing m (m.tree v.call)) q i F (at_more m (Under b i) (λ u kids. At m (λ v below. ForksNothing m (m.tree v.call)) (nth_place i) kids) (λ u kids h. leaf_at i kids (λ v below. v.phase ≡ Running) h.0.indexes.leaves (nth_at m i Running kids h.1)) q F at) in
         at_more m (λ v below. ForksNothing m (m.tree v.call) × TaskOk m rights v below) (λ v below. below ≡ Nil)
@@ -57,7 +61,9 @@ module _ (m : Machine) where
         (at_shape m rights (λ v below. ForksNothing m (m.tree v.call)) (child q i) F sh leaf)
 
     -- an operation that is not the end leaves the phases
-    goes_on : (b : Book) (q : Place) (i : ℕ) (F : Forest m) (h : Task m → Now m) (g : Forest m → Forest m) → ((v : Task m) → (h v).phase ≡ v.phase) → At m (Under b i) q F → At m (HasBook m rights b) q (change m (put m h) g (child q i) F)
+    goes_on : (b : Book) (q : Place) (i : ℕ) (F : Forest m) (h : Task m → Now m) (g : Forest m → Forest m)
+        → ((v : Task m) → (h v).phase ≡ v.phase) → At m (Under b i) q F
+        → At m (HasBook m rights b) q (change m (put m h) g (child q i) F)
     goes_on b q i F h g same at = change_child m (HasBook m rights b) (put m h) g q i F
         (at_more m (Under b i) (λ u kids. HasBook m rights b u (change m (put m h) g (nth_place i) kids)) (λ u kids k.
         (let phs = phases_same m h g i kids (at_more m (λ v below. v.phase ≡ Running) (λ v below. (h v).phase ≡ v.phase) (λ v below e. same v) (nth_place i) kids (nth_at m i Running kids k.1)) in
@@ -68,7 +74,8 @@ module _ (m : Machine) where
         })) q F at)
 
     -- its end, and then its finish
-    ends : (b : Book) (q : Place) (i : ℕ) (F : Forest m) → At m (Under b i) q F → At m (HasBook m rights b) q (change m (put m (in_phase m Finished)) (same_frame m) (child q i) (change m (put m (ended m)) (same_frame m) (child q i) F))
+    ends : (b : Book) (q : Place) (i : ℕ) (F : Forest m) → At m (Under b i) q F
+        → At m (HasBook m rights b) q (change m (put m (in_phase m Finished)) (same_frame m) (child q i) (change m (put m (ended m)) (same_frame m) (child q i) F))
     ends b q i F at =
         let f = put m (ended m) in
         let f' = put m (in_phase m Finished) in
@@ -89,7 +96,8 @@ module _ (m : Machine) where
     abbrev Result : Book → Place → ℕ → State m → Code m → Type 0
     Result b q i x w = let es = index_events m w q i in Follows m rights es x × LoopAt m rights b q (run m es x)
 
-    index_by : (b : Book) (q : Place) (i : ℕ) (x : State m) → Shape m rights x.forest → At m (Under b i) q x.forest → (w : Code m) → left_at m (child q i) x.forest ≡ w → Result b q i x w
+    index_by : (b : Book) (q : Place) (i : ℕ) (x : State m) → Shape m rights x.forest → At m (Under b i) q x.forest → (w : Code m)
+        → left_at m (child q i) x.forest ≡ w → Result b q i x w
     index_by b q i x sh at (Stop f) e =
         let r = child q i in
         let running = child_running b q i x.forest at in
@@ -100,5 +108,6 @@ module _ (m : Machine) where
     index_by b q i x sh at (Do p k) e = ((child_running b q i x.forest at, tt), subst (λ (w : Code m). LoopAt m rights b q (operate m w (child q i) x)) (sym e) (goes_on b q i x.forest (did m p (m.answer p x.store)) (same_frame m) (λ v. refl) at))
     index_by b q i x sh at (Fork c w) e = ((child_running b q i x.forest at, tt), subst (λ (w : Code m). LoopAt m rights b q (operate m w (child q i) x)) (sym e) (goes_on b q i x.forest (forked m) (add_last m (fresh m c)) (λ v. refl) at))
 
-    pub loop_index_goes : (x : State m) (q : Place) (b : Book) (i : ℕ) → Shape m rights x.forest → At m (Under b i) q x.forest → Result b q i x (left_at m (child q i) x.forest)
+    pub loop_index_goes : (x : State m) (q : Place) (b : Book) (i : ℕ) → Shape m rights x.forest → At m (Under b i) q x.forest
+        → Result b q i x (left_at m (child q i) x.forest)
     loop_index_goes x q b i sh at = index_by b q i x sh at (left_at m (child q i) x.forest) refl

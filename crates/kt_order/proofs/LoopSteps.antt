@@ -33,7 +33,8 @@ module _ (m : Machine) where
   Open cs u kids = (u.phase ≡ Ended) × (calls m kids ≡ cs) × (phases m kids ≡ replicate (length cs) Unclaimed)
 
   -- what is left at the place
-  left_is_at : (ds cs : List m.Call) (f : Option m.Fault) (q : Place) (F : Forest m) → At m (Opening ds cs f) q F → left_at m q F ≡ forks_then m cs f
+  left_is_at : (ds cs : List m.Call) (f : Option m.Fault) (q : Place) (F : Forest m) → At m (Opening ds cs f) q F
+      → left_at m q F ≡ forks_then m cs f
   left_is_at ds cs f q F at =
       at_says m (left_at m q F ≡ forks_then m cs f) q F (at_more m (λ u kids. Opening ds cs f u kids × (left m u ≡ left_at m q F)) (λ u kids. left_at m q F ≡ forks_then m cs f) (λ u kids h. sym h.1 ∙ h.0.0.1) q F (at_left m (Opening ds cs f) q F at))
 
@@ -41,11 +42,14 @@ module _ (m : Machine) where
     abbrev IsLawful : State m → Type 0
     IsLawful x = Lawful m rights root s x
 
-    running : (ds cs : List m.Call) (f : Option m.Fault) (q : Place) (F : Forest m) → At m (Opening ds cs f) q F → At m (λ u kids. u.phase ≡ Running) q F
+    running : (ds cs : List m.Call) (f : Option m.Fault) (q : Place) (F : Forest m) → At m (Opening ds cs f) q F
+        → At m (λ u kids. u.phase ≡ Running) q F
     running ds cs f q F at = at_more m (Opening ds cs f) (λ u kids. u.phase ≡ Running) (λ u kids h. h.0.0) q F at
 
     -- one fork more
-    fork_one : (ds : List m.Call) (c : m.Call) (cs : List m.Call) (f : Option m.Fault) (q : Place) (x : State m) → IsLawful x → At m (Opening ds (c ∷ cs) f) q x.forest → At m (Opening (ds ++ c ∷ []) cs f) q (operate m (Fork c (forks_then m cs f)) q x).forest
+    fork_one : (ds : List m.Call) (c : m.Call) (cs : List m.Call) (f : Option m.Fault) (q : Place) (x : State m) → IsLawful x
+        → At m (Opening ds (c ∷ cs) f) q x.forest
+        → At m (Opening (ds ++ c ∷ []) cs f) q (operate m (Fork c (forks_then m cs f)) q x).forest
     fork_one ds c cs f q x h at =
         at_change m (Opening (ds ++ c ∷ []) cs f) (put m (forked m)) (add_last m (fresh m c)) q x.forest
         (at_more m (λ u kids. Opening ds (c ∷ cs) f u kids × TaskOk m rights u kids) (λ u kids. Opening (ds ++ c ∷ []) cs f (put m (forked m) u) (add_last m (fresh m c) kids)) (λ u kids k. (
@@ -58,7 +62,8 @@ module _ (m : Machine) where
         longer ds c = let e = length-append ds (c ∷ []) in omega (arith, e)
 
     -- all forks, and the end
-    begins : (cs ds : List m.Call) (f : Option m.Fault) (q : Place) (x : State m) → IsLawful x → At m (Opening ds cs f) q x.forest → Follows m rights (begin_events q (length cs)) x × At m (Open (ds ++ cs)) q (run m (begin_events q (length cs)) x).forest
+    begins : (cs ds : List m.Call) (f : Option m.Fault) (q : Place) (x : State m) → IsLawful x → At m (Opening ds cs f) q x.forest
+        → Follows m rights (begin_events q (length cs)) x × At m (Open (ds ++ cs)) q (run m (begin_events q (length cs)) x).forest
     begins [] ds f q x h at =
         let all = at_change m (Open ds) (put m (ended m)) (same_frame m) q x.forest (at_more m (Opening ds [] f) (λ u kids. Open ds (put m (ended m) u) kids) (λ u kids k. (refl, k.1, k.2)) q x.forest at) in (
           (running ds [] f q x.forest at, tt),
@@ -75,7 +80,8 @@ module _ (m : Machine) where
           subst (λ (v : Code m). At m (Open (ds ++ c ∷ cs)) q (run m (begin_events q (length cs)) (operate m v q x)).forest) left all,
         )
 
-    pub loop_begins : (x : State m) (q : Place) (cs : List m.Call) (f : Option m.Fault) → IsLawful x → AreIndexes m rights cs → At m (λ u kids. (u.phase ≡ Running) × (left m u ≡ forks_then m cs f) × (kids ≡ Nil)) q x.forest
+    pub loop_begins : (x : State m) (q : Place) (cs : List m.Call) (f : Option m.Fault) → IsLawful x → AreIndexes m rights cs
+        → At m (λ u kids. (u.phase ≡ Running) × (left m u ≡ forks_then m cs f) × (kids ≡ Nil)) q x.forest
         → (let es = begin_events q (length cs) in Follows m rights es x × LoopAt m rights (whole_book (length cs)) q (run m es x))
     loop_begins x q cs f h indexes at =
         let opening = at_more m (λ u kids. (u.phase ≡ Running) × (left m u ≡ forks_then m cs f) × (kids ≡ Nil)) (Opening [] cs f) (λ u kids k. ((k.0, k.1), ap (calls m) k.2, phases_nil m kids k.2)) q x.forest at in

@@ -32,7 +32,9 @@ module _ (m : Machine) where
       let d = rest m later c.store in
       omega (arith, begun_le u.phase, moves_within kids a.store, moves_within later c.store, allowed-append (b.entries ++ c.entries) d.entries, allowed-append b.entries c.entries)
 
-  moves_change : (h : Task m → Now m) (g : Forest m → Forest m) (q : Place) (F : Forest m) → At m (λ u kids. (moves_of m (put m h u) ≡ suc (moves_of m u)) × (moves m (g kids) ≡ moves m kids)) q F → moves m (change m (put m h) g q F) ≡ suc (moves m F)
+  moves_change : (h : Task m → Now m) (g : Forest m → Forest m) (q : Place) (F : Forest m)
+      → At m (λ u kids. (moves_of m (put m h u) ≡ suc (moves_of m u)) × (moves m (g kids) ≡ moves m kids)) q F
+      → moves m (change m (put m h) g q F) ≡ suc (moves m F)
   moves_change h g q Nil at = absurd at
   moves_change h g Here (Node u kids later) at = rw (at.0, at.1) (omega arith)
   moves_change h g (Down q) (Node u kids later) at = rw (moves_change h g q kids at) (omega arith)
@@ -42,7 +44,8 @@ module _ (m : Machine) where
   moves_fresh c Nil = omega arith
   moves_fresh c (Node u kids later) = rw (moves_fresh c later) refl
 
-  moves_operate : (w : Code m) (q : Place) (x : State m) → At m (λ u kids. u.phase ≡ Running) q x.forest → moves m (operate m w q x).forest ≡ suc (moves m x.forest)
+  moves_operate : (w : Code m) (q : Place) (x : State m) → At m (λ u kids. u.phase ≡ Running) q x.forest
+      → moves m (operate m w q x).forest ≡ suc (moves m x.forest)
   moves_operate (Stop f) q x at = moves_change (ended m) (same_frame m) q x.forest (at_more m (λ u kids. u.phase ≡ Running) _ (λ u kids a. (rw a (omega arith), refl)) q x.forest at)
   moves_operate (Do p k) q x at = moves_change (did m p (m.answer p x.store)) (same_frame m) q x.forest (at_more m (λ u kids. u.phase ≡ Running) _ (λ u kids a. (omega arith, refl)) q x.forest at)
   moves_operate (Fork c w) q x at = moves_change (forked m) (add_last m (fresh m c)) q x.forest (at_more m (λ u kids. u.phase ≡ Running) _ (λ u kids a. (omega arith, moves_fresh c kids)) q x.forest at)
@@ -59,7 +62,8 @@ module _ (m : Machine) where
       bounded_moves : (x : State m) → Lawful m rights root s x → moves m x.forest ≤ allowed m (whole m root s).entries
       bounded_moves x h = subst (λ (r : Run m). moves m x.forest ≤ allowed m r.entries) h.rest (moves_within x.forest x.store)
 
-      pub falls : (e : Event) (x : State m) → Enabled m rights e x → Lawful m rights root s x → moves_left m root s (step m e x) < moves_left m root s x
+      pub falls : (e : Event) (x : State m) → Enabled m rights e x → Lawful m rights root s x
+          → moves_left m root s (step m e x) < moves_left m root s x
       falls e x en h =
           let now = bounded_moves (step m e x) (kept m rights l root s e x en h) in
           let one = moves_step e x en in

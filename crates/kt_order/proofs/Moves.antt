@@ -22,13 +22,15 @@ module _ (m : Machine) where
     pub moves : (s : m.Store) → R (m.after p s) ≡ moved_ran p (R s)
     pub same : (s : m.Store) → m.answer p (R s).store ≡ m.answer p s
 
-  pub acts_of : (D : m.Act → Type 0) (H : m.Call → Type 0) (E : m.Call → m.Act → Type 0) (w : Code m) → Within m D H E w → Acts m D w
+  pub acts_of : (D : m.Act → Type 0) (H : m.Call → Type 0) (E : m.Call → m.Act → Type 0) (w : Code m) → Within m D H E w
+      → Acts m D w
   acts_of D H E (Stop f) h = tt
   acts_of D H E (Do q k) h = (h.0, λ a. acts_of D H E (k a) (h.1 a))
   acts_of D H E (Fork c w) h = acts_of D H E w h.2
 
   -- the forks of a body
-  pub alone_forks : (D : m.Act → Type 0) (H : m.Call → Type 0) (E : m.Call → m.Act → Type 0) (w : Code m) → Within m D H E w → (s : m.Store) → AllOf H (alone m w s).forks
+  pub alone_forks : (D : m.Act → Type 0) (H : m.Call → Type 0) (E : m.Call → m.Act → Type 0) (w : Code m) → Within m D H E w
+      → (s : m.Store) → AllOf H (alone m w s).forks
   alone_forks D H E (Stop f) h s = tt
   alone_forks D H E (Do q k) h s = alone_forks D H E (k (m.answer q s)) (h.1 (m.answer q s)) (m.after q s)
   alone_forks D H E (Fork c w) h s = (h.0, alone_forks D H E w h.2 s)
@@ -46,7 +48,8 @@ module _ (m : Machine) where
       alone_answer (Do q k) h s = alone_answer (k (m.answer q s)) (h.1 (m.answer q s)) (m.after q s) ∙ (free q h.0).first s
       alone_answer (Fork c w) h s = alone_answer w h s
 
-    pub each_passes : (f : m.Call → m.Store → Run m) (P : m.Call → Type 0) → ((c : m.Call) → P c → Passes p (f c)) → (cs : List m.Call) → AllOf P cs → Passes p (each m f cs)
+    pub each_passes : (f : m.Call → m.Store → Run m) (P : m.Call → Type 0) → ((c : m.Call) → P c → Passes p (f c))
+        → (cs : List m.Call) → AllOf P cs → Passes p (each m f cs)
     each_passes f P h [] o = record { moves = λ s. refl; same = λ s. refl }
     each_passes f P h (c ∷ cs) o =
         let one = h c o.0 in
@@ -82,7 +85,9 @@ module _ (m : Machine) where
           }
 
       -- one entry with those below it
-      pub one_passes : (u : Task m) → rights.Fits u.call → Within m (rights.Directly u.call) (rights.Handed u.call) (Past m rights) (left m u) → Free u.call → (K : m.Store → Run m) → Passes p K → Passes p (rest_of_one m u K)
+      pub one_passes : (u : Task m) → rights.Fits u.call
+          → Within m (rights.Directly u.call) (rights.Handed u.call) (Past m rights) (left m u) → Free u.call
+          → (K : m.Store → Run m) → Passes p K → Passes p (rest_of_one m u K)
       one_passes u fit w f K k =
           let kids = λ (s : m.Store). each_passes (whole m) (rights.Handed u.call) (λ d h. whole_passes (m.height d) d (l.fits u.call d h) (free_below u.call d h f)) (alone m (left m u) s).forks (alone_forks (rights.Directly u.call) (rights.Handed u.call) (Past m rights) (left m u) w s) in
           record {
@@ -90,7 +95,8 @@ module _ (m : Machine) where
             same = λ s. (kids s).same (K (alone m (left m u) s).store).store ∙ (k.same (alone m (left m u) s).store ∙ alone_answer (rights.Directly u.call) (free_own u.call f) (left m u) (acts_of (rights.Directly u.call) (rights.Handed u.call) (Past m rights) (left m u) w) s);
           }
 
-      pub all_below : (c : m.Call) → Free c → (F : Forest m) → AllTasks m (λ v. rights.Handed c v.call) F → AllTasks m (λ v. Free v.call) F
+      pub all_below : (c : m.Call) → Free c → (F : Forest m) → AllTasks m (λ v. rights.Handed c v.call) F
+          → AllTasks m (λ v. Free v.call) F
       all_below c f Nil h = tt
       all_below c f (Node u kids later) h = (free_below c u.call h.0 f, all_below c f later h.1)
 

@@ -8,13 +8,16 @@ use Rattle.kt_order.specs.Stand.{Standing, stand, Heads}
 use Rattle.kt_order.proofs.Stands.{stand_none, fork_some}
 
 module _ (m : Machine) where
-  next_do : (p q : m.Act) (k : m.Answer → Code m) (a : m.Answer) (b c : Bool) → m.asks p ≡ b → nth (hearing m b [] (λ x more. Acted p x ∷ trace m (k x) more) (cond c (a ∷ []) [])) 0 ≡ Some (Acted q a) → (q ≡ p) × (m.asks p ≡ false → a ≡ m.none)
+  next_do : (p q : m.Act) (k : m.Answer → Code m) (a : m.Answer) (b c : Bool) → m.asks p ≡ b
+      → nth (hearing m b [] (λ x more. Acted p x ∷ trace m (k x) more) (cond c (a ∷ []) [])) 0 ≡ Some (Acted q a)
+      → (q ≡ p) × (m.asks p ≡ false → a ≡ m.none)
   next_do p q k a true true e h = (cc, λ f. cc)
   next_do p q k a true false e h = cc
   next_do p q k a false true e h = (cc, λ f. cc)
   next_do p q k a false false e h = (cc, λ f. cc)
 
-  next_none : (p : m.Act) (k : m.Answer → Code m) (op : Operation m) (b : Bool) → ((a : m.Answer) → Acted p a ≢ op) → nth (hearing m b [] (λ x more. Acted p x ∷ trace m (k x) more) []) 0 ≡ Some op → ⊥
+  next_none : (p : m.Act) (k : m.Answer → Code m) (op : Operation m) (b : Bool) → ((a : m.Answer) → Acted p a ≢ op)
+      → nth (hearing m b [] (λ x more. Acted p x ∷ trace m (k x) more) []) 0 ≡ Some op → ⊥
   next_none p k op true ne h = cc
   next_none p k op false ne h = ne m.none cc
 
@@ -31,13 +34,15 @@ module _ (m : Machine) where
 
   hearing_next : (P : Type 0) (T : m.Answer → List m.Answer → Option (Standing m)) (S : m.Answer → List m.Answer → List (Operation m)) (hd : m.Answer → Operation m) (st : Standing m) (x : List m.Answer) (op : Operation m) (n : ℕ) (b : Bool) (answers : List m.Answer)
       → ((a : m.Answer) (more : List m.Answer) → T a more ≡ Some st → nth (S a (more ++ x)) n ≡ Some op → P)
-      → hearing m b None T answers ≡ Some st → nth (hearing m b [] (λ a more. hd a ∷ S a more) (answers ++ x)) (suc n) ≡ Some op → P
+      → hearing m b None T answers ≡ Some st → nth (hearing m b [] (λ a more. hd a ∷ S a more) (answers ++ x)) (suc n) ≡ Some op
+      → P
   hearing_next P T S hd st x op n true [] h e f = absurd (cc e)
   hearing_next P T S hd st x op n true (a ∷ more) h e f = h a more e f
   hearing_next P T S hd st x op n false answers h e f = h m.none answers e f
 
   -- the operation that is next is the first of what is left
-  pub next_heads : (w : Code m) (answers : List m.Answer) (n : ℕ) (st : Standing m) (op : Operation m) → stand m w answers n ≡ Some st → IsNext m w answers n op → Heads m op st.left
+  pub next_heads : (w : Code m) (answers : List m.Answer) (n : ℕ) (st : Standing m) (op : Operation m)
+      → stand m w answers n ≡ Some st → IsNext m w answers n op → Heads m op st.left
   next_heads w answers zero st op e next =
       let h = stand_none m w answers st e in
       subst (λ (s : Standing m). Heads m op s.left) (sym h.1) (next_first w op (subst (λ xs. IsNext m w xs 0 op) h.0 next))
@@ -51,18 +56,21 @@ module _ (m : Machine) where
 
   hearing_stays : (T : m.Answer → List m.Answer → Option (Standing m)) (S : m.Answer → List m.Answer → List (Operation m)) (st : Standing m) (x : List m.Answer) (p : m.Act) (k : ℕ) (b : Bool) (answers : List m.Answer)
       → ((a : m.Answer) (more : List m.Answer) → T a more ≡ Some st → nth (Acted p a ∷ S a (more ++ x)) k ≡ nth (Acted p a ∷ S a more) k)
-      → hearing m b None T answers ≡ Some st → nth (hearing m b [] (λ a more. Acted p a ∷ S a more) (answers ++ x)) k ≡ nth (hearing m b [] (λ a more. Acted p a ∷ S a more) answers) k
+      → hearing m b None T answers ≡ Some st
+      → nth (hearing m b [] (λ a more. Acted p a ∷ S a more) (answers ++ x)) k ≡ nth (hearing m b [] (λ a more. Acted p a ∷ S a more) answers) k
   hearing_stays T S st x p k true [] h e = cc
   hearing_stays T S st x p k true (a ∷ more) h e = h a more e
   hearing_stays T S st x p k false answers h e = h m.none answers e
 
   -- one more operation before
-  nth_on : {X : Type 0} → (x : X) (xs ys : List X) (n : ℕ) → ((i : ℕ) → i < n → nth xs i ≡ nth ys i) → (k : ℕ) → k < suc n → nth (x ∷ xs) k ≡ nth (x ∷ ys) k
+  nth_on : {X : Type 0} → (x : X) (xs ys : List X) (n : ℕ) → ((i : ℕ) → i < n → nth xs i ≡ nth ys i) → (k : ℕ) → k < suc n
+      → nth (x ∷ xs) k ≡ nth (x ∷ ys) k
   nth_on x xs ys n same zero less = refl
   nth_on x xs ys n same (suc k) less = same k (omega arith)
 
   -- what was done stays done, whatever answers come after
-  pub done_stays : (w : Code m) (answers more : List m.Answer) (n k : ℕ) (st : Standing m) → stand m w answers n ≡ Some st → k < n → nth (trace m w (answers ++ more)) k ≡ nth (trace m w answers) k
+  pub done_stays : (w : Code m) (answers more : List m.Answer) (n k : ℕ) (st : Standing m) → stand m w answers n ≡ Some st → k < n
+      → nth (trace m w (answers ++ more)) k ≡ nth (trace m w answers) k
   done_stays w answers more zero k st e less = absurd (omega arith)
   done_stays (Stop f) answers more (suc n) k st e less = refl
   done_stays (Do p j) answers more (suc n) k st e less =

@@ -31,7 +31,8 @@ module _ (m : Machine) where
     pub left_is : (u : Task m) (kids : Forest m) (ok : TaskOk m rights u kids) → left m u ≡ ok.st.left
     left_is u kids ok = ap (left_of m) ok.stands
 
-    is_bounded : (u : Task m) (kids : Forest m) (ok : TaskOk m rights u kids) → Bounded m (rights.Directly u.call) (rights.Handed u.call) (Past m rights) ok.st
+    is_bounded : (u : Task m) (kids : Forest m) (ok : TaskOk m rights u kids)
+        → Bounded m (rights.Directly u.call) (rights.Handed u.call) (Past m rights) ok.st
     is_bounded u kids ok = bounded m (rights.Directly u.call) (rights.Handed u.call) (Past m rights) (m.tree u.call) u.answers u.done ok.st (l.within u.call ok.fits) ok.stands
 
     pub node_is : (u : Task m) (kids : Forest m) → TaskOk m rights u kids → NodeIs u kids
@@ -51,12 +52,14 @@ module _ (m : Machine) where
         let none = stand_none m (m.tree u.call) u.answers ok.st (subst (λ n. stand m (m.tree u.call) u.answers n ≡ Some ok.st) zero_done ok.stands) in
         no_calls kids (ok.forked ∙ ap (λ s. s.forks) none.1)
 
-    pub unclaimed_not_over : (u : Task m) (kids : Forest m) (ok : TaskOk m rights u kids) → u.phase ≡ Unclaimed → ok.st.over ≡ false
+    pub unclaimed_not_over : (u : Task m) (kids : Forest m) (ok : TaskOk m rights u kids) → u.phase ≡ Unclaimed
+        → ok.st.over ≡ false
     unclaimed_not_over u kids ok e =
         let zero_done = subst (λ ph. PhaseOk m ph u ok.st kids) e ok.phase in
         ap (λ s. s.over) (stand_none m (m.tree u.call) u.answers ok.st (subst (λ n. stand m (m.tree u.call) u.answers n ≡ Some ok.st) zero_done ok.stands)).1
 
-    pub finished_ok : (u : Task m) (kids : Forest m) → TaskOk m rights u kids → u.phase ≡ Finished → IsStop m (left m u) × AllFinished m kids
+    pub finished_ok : (u : Task m) (kids : Forest m) → TaskOk m rights u kids → u.phase ≡ Finished
+        → IsStop m (left m u) × AllFinished m kids
     finished_ok u kids ok e =
         let fin = subst (λ ph. PhaseOk m ph u ok.st kids) e ok.phase in
         (subst (IsStop m) (sym (left_is u kids ok)) ((is_bounded u kids ok).stops fin.0), fin.1)

@@ -14,7 +14,8 @@ use Rattle.kt_order.proofs.PathsAt.{tree_at}
 use Rattle.kt_order.proofs.Shown.{tasks_begin}
 
 module _ (m : Machine) where
-  all_more : (us : List (Task m)) (e : Entry m) (es : List (Entry m)) → AllOf (λ u. SomeOf (Begins m u) es) us → AllOf (λ u. SomeOf (Begins m u) (e ∷ es)) us
+  all_more : (us : List (Task m)) (e : Entry m) (es : List (Entry m)) → AllOf (λ u. SomeOf (Begins m u) es) us
+      → AllOf (λ u. SomeOf (Begins m u) (e ∷ es)) us
   all_more [] e es h = tt
   all_more (u ∷ us) e es h = (inr h.0, all_more us e es h.1)
 
@@ -29,13 +30,16 @@ module _ (m : Machine) where
   all_left P [] vs h = (tt, h)
   all_left P (u ∷ us) vs h = let more = all_left P us vs h.1 in ((h.0, more.0), more.1)
 
-  at_task : (P : Task m → Type 0) (A : Task m → Forest m → Type 0) (q : Place) (F : Forest m) → AllOf P (tasks m F) → At m A q F → At m (λ u kids. A u kids × P u) q F
+  at_task : (P : Task m → Type 0) (A : Task m → Forest m → Type 0) (q : Place) (F : Forest m) → AllOf P (tasks m F) → At m A q F
+      → At m (λ u kids. A u kids × P u) q F
   at_task P A q Nil all at = at
   at_task P A Here (Node u kids later) all at = (at, all.0)
   at_task P A (Down q) (Node u kids later) all at = at_task P A q kids (all_left P (tasks m kids) (tasks m later) all.1).0 at
   at_task P A (Later q) (Node u kids later) all at = at_task P A q later (all_left P (tasks m kids) (tasks m later) all.1).1 at
 
-  pub path_begins : (rights : Rights m) (depth : ℕ) (root : m.Call) (s : m.Store) (x : Named m) → Lawful m rights root s (named m depth x) → (p : List ℕ) → IsThere depth (count_of m x.get) p → SomeOf (Begins m (x.get p)) (whole m root s).entries
+  pub path_begins : (rights : Rights m) (depth : ℕ) (root : m.Call) (s : m.Store) (x : Named m)
+      → Lawful m rights root s (named m depth x) → (p : List ℕ) → IsThere depth (count_of m x.get) p
+      → SomeOf (Begins m (x.get p)) (whole m root s).entries
   path_begins rights depth root s x h p there =
       let F = tree_of m depth x.get (count_of m x.get) in
       let A = λ (u : Task m) (kids : Forest m). u ≡ x.get p in

@@ -20,7 +20,9 @@ map_map f g [] = refl
 map_map f g (x ∷ xs) = ap (λ ys. f (g x) ∷ ys) (map_map f g xs)
 
 module _ (m : Machine) where
-  children_settled : (depth : ℕ) → ((get : Known m) (count : List ℕ → ℕ) → settled m (grown m depth get count) ≡ map (λ p. entry_of m (get p)) (listed depth count)) → (get : Known m) (count : List ℕ → ℕ) (k n : ℕ)
+  children_settled : (depth : ℕ)
+      → ((get : Known m) (count : List ℕ → ℕ) → settled m (grown m depth get count) ≡ map (λ p. entry_of m (get p)) (listed depth count))
+      → (get : Known m) (count : List ℕ → ℕ) (k n : ℕ)
       → settled m (children_from m (grown m depth) get count k n) ≡ map (λ p. entry_of m (get p)) (each_from (listed depth) count k n)
   children_settled depth deeper get count k zero = refl
   children_settled depth deeper get count k (suc n) =
@@ -30,18 +32,21 @@ module _ (m : Machine) where
       (ap (λ es. es ++ map f (each_from (listed depth) count (suc k) n)) (sym (map_map f (λ p. k ∷ p) (listed depth (shift k count))))
       ∙ sym (map-append f (map (λ p. k ∷ p) (listed depth (shift k count))) (each_from (listed depth) count (suc k) n)))
 
-  grown_settled : (depth : ℕ) (get : Known m) (count : List ℕ → ℕ) → settled m (grown m depth get count) ≡ map (λ p. entry_of m (get p)) (listed depth count)
+  grown_settled : (depth : ℕ) (get : Known m) (count : List ℕ → ℕ)
+      → settled m (grown m depth get count) ≡ map (λ p. entry_of m (get p)) (listed depth count)
   grown_settled zero get count = refl
   grown_settled (suc depth) get count = children_settled depth (grown_settled depth) get count 0 (count [])
 
-  tree_settled : (depth : ℕ) (get : Known m) (count : List ℕ → ℕ) → settled m (tree_of m depth get count) ≡ map (λ p. entry_of m (get p)) (all_paths depth count)
+  tree_settled : (depth : ℕ) (get : Known m) (count : List ℕ → ℕ)
+      → settled m (tree_of m depth get count) ≡ map (λ p. entry_of m (get p)) (all_paths depth count)
   tree_settled depth get count = ap (λ es. entry_of m (get []) ∷ es) (append-nil (settled m (grown m depth get count)) ∙ grown_settled depth get count)
 
   module _ (rights : Rights m) (l : Laws m rights) where
     kids_done : (u : Task m) (kids : Forest m) → TaskOk m rights u kids → u.phase ≡ Finished → AllFinished m kids
     kids_done u kids ok e = (subst (λ ph. PhaseOk m ph u ok.st kids) e ok.phase).1
 
-    at_done : (A : Task m → Forest m → Type 0) (q : Place) (F : Forest m) → Shape m rights F → AllFinished m F → At m A q F → At m (λ u kids. A u kids × (u.phase ≡ Finished)) q F
+    at_done : (A : Task m → Forest m → Type 0) (q : Place) (F : Forest m) → Shape m rights F → AllFinished m F → At m A q F
+        → At m (λ u kids. A u kids × (u.phase ≡ Finished)) q F
     at_done A q Nil sh fin at = at
     at_done A Here (Node u kids later) sh fin at = (at, fin.0)
     at_done A (Down q) (Node u kids later) sh fin at = at_done A q kids sh.2 (kids_done u kids sh.0 fin.0) at

@@ -49,7 +49,9 @@ module _ (m : Machine) where
   abbrev weight : Known m → List ℕ → ℕ
   weight get = λ p. suc (forks_next m (left m (get p)))
 
-  children_load : (depth : ℕ) → ((get : Known m) (count : List ℕ → ℕ) → load (grown m depth get count) ≡ sum_over (weight get) (listed depth count)) → (get : Known m) (count : List ℕ → ℕ) (k n : ℕ)
+  children_load : (depth : ℕ)
+      → ((get : Known m) (count : List ℕ → ℕ) → load (grown m depth get count) ≡ sum_over (weight get) (listed depth count))
+      → (get : Known m) (count : List ℕ → ℕ) (k n : ℕ)
       → load (children_from m (grown m depth) get count k n) ≡ sum_over (weight get) (each_from (listed depth) count k n)
   children_load depth deeper get count k zero = refl
   children_load depth deeper get count k (suc n) =
@@ -57,11 +59,14 @@ module _ (m : Machine) where
       let c = sum_append (weight get) (map (λ p. k ∷ p) (listed depth (shift k count))) (each_from (listed depth) count (suc k) n) in
       let d = sum_map (weight get) (λ p. k ∷ p) (listed depth (shift k count)) in omega arith
 
-  grown_load : (depth : ℕ) (get : Known m) (count : List ℕ → ℕ) → load (grown m depth get count) ≡ sum_over (weight get) (listed depth count)
+  grown_load : (depth : ℕ) (get : Known m) (count : List ℕ → ℕ)
+      → load (grown m depth get count) ≡ sum_over (weight get) (listed depth count)
   grown_load zero get count = refl
   grown_load (suc depth) get count = children_load depth (grown_load depth) get count 0 (count [])
 
-  pub run_more : (rights : Rights m) (depth : ℕ) (root : m.Call) (s : m.Store) (x : Named m) → Lawful m rights root s (named m depth x) → sum_over (weight x.get) (all_paths depth (count_of m x.get)) ≤ length (whole m root s).entries
+  pub run_more : (rights : Rights m) (depth : ℕ) (root : m.Call) (s : m.Store) (x : Named m)
+      → Lawful m rights root s (named m depth x)
+      → sum_over (weight x.get) (all_paths depth (count_of m x.get)) ≤ length (whole m root s).entries
   run_more rights depth root s x h =
       let a = grown_load depth x.get (count_of m x.get) in
       let b = rest_more (tree_of m depth x.get (count_of m x.get)) x.store in

@@ -14,7 +14,8 @@ module _ (m : Machine) where
   SomeBelow depth get count = (k : ℕ) × (p : List ℕ) × IsThere depth count (k ∷ p) × Goes depth get count (k ∷ p)
 
   module _ (depth : ℕ) (deeper : (get : Known m) (count : List ℕ → ℕ) → AllFinished m (grown m depth get count) ⊎ SomeBelow depth get count) (get : Known m) (count : List ℕ → ℕ) where
-    by_phase : (k n : ℕ) → k < count [] → ((i : ℕ) → i < k → (get (i ∷ [])).phase ≡ Finished) → (ph : Phase) → (get (k ∷ [])).phase ≡ ph
+    by_phase : (k n : ℕ) → k < count [] → ((i : ℕ) → i < k → (get (i ∷ [])).phase ≡ Finished) → (ph : Phase)
+        → (get (k ∷ [])).phase ≡ ph
         → ((get (k ∷ [])).phase ≡ Finished → AllFinished m (children_from m (grown m depth) get count (suc k) n) ⊎ SomeBelow (suc depth) get count)
         → AllFinished m (children_from m (grown m depth) get count k (suc n)) ⊎ SomeBelow (suc depth) get count
     by_phase k n lt before Unclaimed e on = inr (k, [], (lt, tt), inl (e, before))
@@ -25,7 +26,8 @@ module _ (m : Machine) where
     ]
     by_phase k n lt before Finished e on = elim (on e) [ inl all ↦ inl (e, all) | inr some ↦ inr some ]
 
-    scan : (n k : ℕ) → k + n ≡ count [] → ((i : ℕ) → i < k → (get (i ∷ [])).phase ≡ Finished) → AllFinished m (children_from m (grown m depth) get count k n) ⊎ SomeBelow (suc depth) get count
+    scan : (n k : ℕ) → k + n ≡ count [] → ((i : ℕ) → i < k → (get (i ∷ [])).phase ≡ Finished)
+        → AllFinished m (children_from m (grown m depth) get count k n) ⊎ SomeBelow (suc depth) get count
     scan zero k e before = inl tt
     scan (suc n) k e before = by_phase k n (omega arith) before (get (k ∷ [])).phase refl (λ fin. scan n (suc k) (omega arith) (λ i lt. extend fin i lt (place i)))
       where
@@ -38,15 +40,18 @@ module _ (m : Machine) where
             let e : k ≡ i = omega arith in
             subst (λ j. (get (j ∷ [])).phase ≡ Finished) e fin
 
-  some_below : (depth : ℕ) (get : Known m) (count : List ℕ → ℕ) → AllFinished m (grown m depth get count) ⊎ SomeBelow depth get count
+  some_below : (depth : ℕ) (get : Known m) (count : List ℕ → ℕ)
+      → AllFinished m (grown m depth get count) ⊎ SomeBelow depth get count
   some_below zero get count = inl tt
   some_below (suc depth) get count = scan depth (some_below depth) get count (count []) 0 (omega arith) (λ i lt. absurd (omega arith))
 
   -- main is finished, or some event is enabled at some path
-  pub some_goes : (depth : ℕ) (get : Known m) (count : List ℕ → ℕ) → ((get []).phase ≡ Finished) ⊎ (p : List ℕ) × IsThere depth count p × Goes depth get count p
+  pub some_goes : (depth : ℕ) (get : Known m) (count : List ℕ → ℕ)
+      → ((get []).phase ≡ Finished) ⊎ (p : List ℕ) × IsThere depth count p × Goes depth get count p
   some_goes depth get count = root (get []).phase refl
     where
-      root : (ph : Phase) → (get []).phase ≡ ph → ((get []).phase ≡ Finished) ⊎ (p : List ℕ) × IsThere depth count p × Goes depth get count p
+      root : (ph : Phase) → (get []).phase ≡ ph
+          → ((get []).phase ≡ Finished) ⊎ (p : List ℕ) × IsThere depth count p × Goes depth get count p
       root Unclaimed e = inr ([], tt, inl (e, tt))
       root Running e = inr ([], tt, inr (inl e))
       root Finished e = inl e

@@ -7,13 +7,15 @@ use Rattle.kt_order.specs.Paths.{shift, bump, HasRoom, IsThere, Known, children_
 use Rattle.kt_order.proofs.PathChanges.{eq_self, eq_other}
 
 -- a child is there where its parent is, and its number is small
-pub there_child : (depth : ℕ) (count : List ℕ → ℕ) (p : List ℕ) (k : ℕ) → IsThere depth count (p ++ k ∷ []) → IsThere depth count p × (k < count p) × HasRoom depth p
+pub there_child : (depth : ℕ) (count : List ℕ → ℕ) (p : List ℕ) (k : ℕ) → IsThere depth count (p ++ k ∷ [])
+    → IsThere depth count p × (k < count p) × HasRoom depth p
 there_child zero count [] k h = absurd h
 there_child (suc depth) count [] k h = (tt, h.0, tt)
 there_child zero count (i ∷ p) k h = absurd h
 there_child (suc depth) count (i ∷ p) k h = let r = there_child depth (shift i count) p k h.1 in ((h.0, r.0), r.1, r.2)
 
-pub child_there : (depth : ℕ) (count : List ℕ → ℕ) (p : List ℕ) (k : ℕ) → IsThere depth count p → k < count p → HasRoom depth p → IsThere depth count (p ++ k ∷ [])
+pub child_there : (depth : ℕ) (count : List ℕ → ℕ) (p : List ℕ) (k : ℕ) → IsThere depth count p → k < count p → HasRoom depth p
+    → IsThere depth count (p ++ k ∷ [])
 child_there zero count [] k h less room = absurd room
 child_there (suc depth) count [] k h less room = (less, tt)
 child_there zero count (i ∷ p) k h less room = absurd room
@@ -45,7 +47,8 @@ there_more (suc depth) count (j ∷ p) (k ∷ q) h = (
 )
 
 -- and what is there was there, or is that child
-pub there_less : (depth : ℕ) (count : List ℕ → ℕ) (p q : List ℕ) → count (p ++ count p ∷ []) ≡ 0 → IsThere depth (bump p count) q → IsThere depth count q ⊎ (q ≡ p ++ count p ∷ [])
+pub there_less : (depth : ℕ) (count : List ℕ → ℕ) (p q : List ℕ) → count (p ++ count p ∷ []) ≡ 0 → IsThere depth (bump p count) q
+    → IsThere depth count q ⊎ (q ≡ p ++ count p ∷ [])
 there_less depth count p [] none h = inl tt
 there_less zero count p (k ∷ q) none h = absurd h
 there_less (suc depth) count [] (k ∷ q) none h = elim (one_or k (count [])) [
@@ -53,7 +56,8 @@ there_less (suc depth) count [] (k ∷ q) none h = elim (one_or k (count [])) [
   | inr n ↦ (let a = h.0 in inl (omega arith, h.1))
 ]
   where
-    go : (q : List ℕ) → IsThere depth (shift (count []) count) q → k ≡ count [] → IsThere (suc depth) count (k ∷ q) ⊎ (k ∷ q ≡ count [] ∷ [])
+    go : (q : List ℕ) → IsThere depth (shift (count []) count) q → k ≡ count []
+        → IsThere (suc depth) count (k ∷ q) ⊎ (k ∷ q ≡ count [] ∷ [])
     go [] t e = inr (λ i. e i ∷ [])
     go (i ∷ q) t e = absurd (first depth t)
       where
@@ -70,17 +74,20 @@ there_less (suc depth) count (j ∷ p) (k ∷ q) none h = elim (one_or k j) [
 
 module _ (m : Machine) where
   -- what holds of each earlier sibling is what Earlier says
-  pub earlier_by : (R : Task m → Task m → Type 0) (q : List ℕ) (k : ℕ) (get : Known m) → ((i : ℕ) → i < k → R (get (q ++ i ∷ [])) (get (q ++ k ∷ []))) → Earlier m R (q ++ k ∷ []) get
+  pub earlier_by : (R : Task m → Task m → Type 0) (q : List ℕ) (k : ℕ) (get : Known m)
+      → ((i : ℕ) → i < k → R (get (q ++ i ∷ [])) (get (q ++ k ∷ []))) → Earlier m R (q ++ k ∷ []) get
   earlier_by R [] k get h = h
   earlier_by R (j ∷ []) k get h = h
   earlier_by R (j ∷ i ∷ q) k get h = earlier_by R (i ∷ q) k (shift j get) h
 
-  children_all : (P : Task m → Type 0) (sub : Known m → (List ℕ → ℕ) → Forest m) (get : Known m) (count : List ℕ → ℕ) (k n : ℕ) → ((i : ℕ) → i < k + n → P (get (i ∷ []))) → AllTasks m P (children_from m sub get count k n)
+  children_all : (P : Task m → Type 0) (sub : Known m → (List ℕ → ℕ) → Forest m) (get : Known m) (count : List ℕ → ℕ) (k n : ℕ)
+      → ((i : ℕ) → i < k + n → P (get (i ∷ []))) → AllTasks m P (children_from m sub get count k n)
   children_all P sub get count k zero h = tt
   children_all P sub get count k (suc n) h = (h k (omega arith), children_all P sub get count (suc k) n (λ i less. h i (omega arith)))
 
   -- what holds of each child of p holds of its frame
-  pub below_by : (P : Task m → Type 0) (depth : ℕ) (p : List ℕ) (get : Known m) (count : List ℕ → ℕ) → ((k : ℕ) → k < count p → P (get (p ++ k ∷ []))) → AllTasks m P (children_at m depth p get count)
+  pub below_by : (P : Task m → Type 0) (depth : ℕ) (p : List ℕ) (get : Known m) (count : List ℕ → ℕ)
+      → ((k : ℕ) → k < count p → P (get (p ++ k ∷ []))) → AllTasks m P (children_at m depth p get count)
   below_by P zero [] get count h = tt
   below_by P (suc depth) [] get count h = children_all P (grown m depth) get count 0 (count []) (λ i less. h i (omega arith))
   below_by P zero (k ∷ p) get count h = tt

@@ -20,7 +20,8 @@ module _ (m : Machine) where
 
     one_changes : (f : Task m → Task m) (g : Forest m → Forest m) (r : Place)
         → ((later : Forest m) → Node (get' (j ∷ [])) (sub (shift j get') (shift j count')) later ≡ change m f g r (Node (get (j ∷ [])) (sub (shift j get) (shift j count)) later))
-        → (n k d : ℕ) → k + d ≡ j → d < n → children_from m sub get' count' k n ≡ change m f g (skip d r) (children_from m sub get count k n)
+        → (n k d : ℕ) → k + d ≡ j → d < n
+        → children_from m sub get' count' k n ≡ change m f g (skip d r) (children_from m sub get count k n)
     one_changes f g r here zero k d e lt = absurd (omega arith)
     one_changes f g r here (suc n) k zero e lt =
         let is : k ≡ j = omega arith in
@@ -45,7 +46,8 @@ module _ (m : Machine) where
 
   module _ (v : Task m) where
     -- one more child of the entry itself
-    add_here : (depth : ℕ) (get : Known m) (count : List ℕ → ℕ) (n : ℕ) → count (n ∷ []) ≡ 0 → (j k : ℕ) → k + j ≡ n → children_from m (grown m depth) (set_at (n ∷ []) v get) (bump [] count) k (suc j) ≡ add_last m v (children_from m (grown m depth) get count k j)
+    add_here : (depth : ℕ) (get : Known m) (count : List ℕ → ℕ) (n : ℕ) → count (n ∷ []) ≡ 0 → (j k : ℕ) → k + j ≡ n
+        → children_from m (grown m depth) (set_at (n ∷ []) v get) (bump [] count) k (suc j) ≡ add_last m v (children_from m (grown m depth) get count k j)
     add_here depth get count n none zero k e =
         let is : k ≡ n = omega arith in
         subst (λ (i : ℕ). Node (set_at (n ∷ []) v get (i ∷ [])) (grown m depth (shift i (set_at (n ∷ []) v get)) (shift i count)) Nil ≡ Node v Nil Nil) (sym is)
@@ -58,10 +60,13 @@ module _ (m : Machine) where
     keep : Task m → Task m
     keep u = u
 
-    sames_at : (k : ℕ) (q p : List ℕ) (get : Known m) (count : List ℕ → ℕ) (i : ℕ) → i ≢ k → (shift i (set_at (k ∷ q) v get) ≡ shift i get) × (shift i (bump (k ∷ p) count) ≡ shift i count)
+    sames_at : (k : ℕ) (q p : List ℕ) (get : Known m) (count : List ℕ → ℕ) (i : ℕ) → i ≢ k
+        → (shift i (set_at (k ∷ q) v get) ≡ shift i get) × (shift i (bump (k ∷ p) count) ≡ shift i count)
     sames_at k q p get count i ne = (shift_other i k q v get ne, bump_other i k p count ne)
 
-    below_add : (depth : ℕ) (get : Known m) (count : List ℕ → ℕ) (k : ℕ) (p : List ℕ) → HasRoom depth (k ∷ p) → IsThere depth count (k ∷ p) → count ((k ∷ p) ++ count (k ∷ p) ∷ []) ≡ 0 → grown m depth (set_at ((k ∷ p) ++ count (k ∷ p) ∷ []) v get) (bump (k ∷ p) count) ≡ change m (λ u. u) (add_last m v) (place_below k p) (grown m depth get count)
+    below_add : (depth : ℕ) (get : Known m) (count : List ℕ → ℕ) (k : ℕ) (p : List ℕ) → HasRoom depth (k ∷ p)
+        → IsThere depth count (k ∷ p) → count ((k ∷ p) ++ count (k ∷ p) ∷ []) ≡ 0
+        → grown m depth (set_at ((k ∷ p) ++ count (k ∷ p) ∷ []) v get) (bump (k ∷ p) count) ≡ change m (λ u. u) (add_last m v) (place_below k p) (grown m depth get count)
     below_add zero get count k p room there none = absurd room
     below_add (suc zero) get count k [] room there none = absurd room
     below_add (suc (suc depth)) get count k [] room there none =
@@ -80,7 +85,9 @@ module _ (m : Machine) where
         (count []) 0 k (omega arith) there.0
 
     -- one more path is one more entry at the end of its frame
-    pub tree_add : (depth : ℕ) (get : Known m) (count : List ℕ → ℕ) (p : List ℕ) → HasRoom depth p → IsThere depth count p → count (p ++ count p ∷ []) ≡ 0 → tree_of m depth (set_at (p ++ count p ∷ []) v get) (bump p count) ≡ change m (λ u. u) (add_last m v) (place_of p) (tree_of m depth get count)
+    pub tree_add : (depth : ℕ) (get : Known m) (count : List ℕ → ℕ) (p : List ℕ) → HasRoom depth p → IsThere depth count p
+        → count (p ++ count p ∷ []) ≡ 0
+        → tree_of m depth (set_at (p ++ count p ∷ []) v get) (bump p count) ≡ change m (λ u. u) (add_last m v) (place_of p) (tree_of m depth get count)
     tree_add zero get count p room there none = absurd room
     tree_add (suc depth) get count [] room there none = ap (λ K. Node (get []) K Nil) (add_here depth get count (count []) none (count []) 0 (omega arith))
     tree_add (suc depth) get count (k ∷ p) room there none = ap (λ K. Node (get []) K Nil) (below_add (suc depth) get count k p room there none)

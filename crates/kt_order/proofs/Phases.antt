@@ -27,7 +27,8 @@ set_length i ph [] = refl
 set_length zero ph (x ∷ phases) = refl
 set_length (suc i) ph (x ∷ phases) = ap suc (set_length i ph phases)
 
-pub set_none_ended : (i : ℕ) (ph : Phase) (phases : List Phase) → ph ≢ Ended → NoneEnded phases → NoneEnded (set_phase i ph phases)
+pub set_none_ended : (i : ℕ) (ph : Phase) (phases : List Phase) → ph ≢ Ended → NoneEnded phases
+    → NoneEnded (set_phase i ph phases)
 set_none_ended i ph [] ne h = tt
 set_none_ended zero ph (x ∷ phases) ne h = (ne, h.1)
 set_none_ended (suc i) ph (x ∷ phases) ne h = (h.0, set_none_ended i ph phases ne h.1)
@@ -48,7 +49,8 @@ set_running_done (suc i) (ph ∷ phases) e = ap (λ n. is_done ph + n) (set_runn
 abbrev pub AllUntaken : ℕ → ℕ → List Phase → Type 0
 AllUntaken at n phases = (i : ℕ) → at ≤ i → i < at + n → untaken phases i ≡ 1
 
-pub all_after : (at n : ℕ) (phases : List Phase) → AllUntaken at (suc n) phases → AllUntaken (suc at) n (set_phase at Running phases)
+pub all_after : (at n : ℕ) (phases : List Phase) → AllUntaken at (suc n) phases
+    → AllUntaken (suc at) n (set_phase at Running phases)
 all_after at n phases all = λ i from less.
     let ne : at ≢ i = omega (arith, from) in
     set_other at i Running phases ne ∙ all i (omega (arith, from)) (omega (arith, less))
@@ -76,8 +78,10 @@ running_set (suc n) at phases all =
     same_or : (i j : ℕ) → (i ≡ j) ⊎ (i ≢ j)
     same_or i j = grind arith
 
-    by_place : (i : ℕ) → untaken phases at ≡ 1 → untaken (set_running (suc at) n (set_phase at Running phases)) i + (below (suc at + n) i - below (suc at) i) ≡ untaken (set_phase at Running phases) i
-        → (at ≡ i) ⊎ (at ≢ i) → untaken (set_running (suc at) n (set_phase at Running phases)) i + (below (at + suc n) i - below at i) ≡ untaken phases i
+    by_place : (i : ℕ) → untaken phases at ≡ 1
+        → untaken (set_running (suc at) n (set_phase at Running phases)) i + (below (suc at + n) i - below (suc at) i) ≡ untaken (set_phase at Running phases) i
+        → (at ≡ i) ⊎ (at ≢ i)
+        → untaken (set_running (suc at) n (set_phase at Running phases)) i + (below (at + suc n) i - below at i) ≡ untaken phases i
     by_place i first h (inl is) =
         let gone : untaken (set_phase at Running phases) i ≡ 0 = subst (λ (j : ℕ). untaken (set_phase at Running phases) j ≡ 0) is (set_same at Running phases (untaken_there at phases first)) in
         let was : untaken phases i ≡ 1 = subst (λ (j : ℕ). untaken phases j ≡ 1) is first in
@@ -87,14 +91,16 @@ running_set (suc n) at phases all =
         omega (arith, same, h, ne)
 
 -- an index that is under way ends
-pub ended_untaken : (i j : ℕ) (phases : List Phase) → nth phases i ≡ Some Running → untaken (set_phase i Finished phases) j ≡ untaken phases j
+pub ended_untaken : (i j : ℕ) (phases : List Phase) → nth phases i ≡ Some Running
+    → untaken (set_phase i Finished phases) j ≡ untaken phases j
 ended_untaken i j [] e = refl
 ended_untaken zero zero (ph ∷ phases) e = let is : ph ≡ Running = cc e in rw is refl
 ended_untaken zero (suc j) (ph ∷ phases) e = refl
 ended_untaken (suc i) zero (ph ∷ phases) e = refl
 ended_untaken (suc i) (suc j) (ph ∷ phases) e = ended_untaken i j phases e
 
-pub ended_done : (i : ℕ) (phases : List Phase) → nth phases i ≡ Some Running → done_in (set_phase i Finished phases) ≡ suc (done_in phases)
+pub ended_done : (i : ℕ) (phases : List Phase) → nth phases i ≡ Some Running
+    → done_in (set_phase i Finished phases) ≡ suc (done_in phases)
 ended_done i [] e = absurd (cc e)
 ended_done zero (ph ∷ phases) e = let is : ph ≡ Running = cc e in rw is (omega arith)
 ended_done (suc i) (ph ∷ phases) e = let h = ended_done i phases e in omega (arith, h)
@@ -123,7 +129,8 @@ all_done (ph ∷ phases) h =
     (done_is ph (omega (arith, h, most)), all_done phases (omega (arith, h, one)))
 
 -- an index that is not taken, one that is under way, or all have ended
-pub look : (phases : List Phase) → NoneEnded phases → ((i : ℕ) × (untaken phases i ≡ 1)) ⊎ (((i : ℕ) × (nth phases i ≡ Some Running)) ⊎ (done_in phases ≡ length phases))
+pub look : (phases : List Phase) → NoneEnded phases
+    → ((i : ℕ) × (untaken phases i ≡ 1)) ⊎ (((i : ℕ) × (nth phases i ≡ Some Running)) ⊎ (done_in phases ≡ length phases))
 look [] h = inr (inr refl)
 look (Unclaimed ∷ phases) h = inl (0, refl)
 look (Running ∷ phases) h = inr (inl (0, refl))

@@ -18,14 +18,17 @@ module _ (m : Machine) (rights : Rights m) where
   go_down u kids later s (Finish q, enabled) = (Finish (Down q), enabled)
 
   -- an event of the later tasks of the frame
-  go_on : (u : Task m) (kids later : Forest m) (s : m.Store) → IsFinished m u → SomeEvent later s → SomeEvent (Node u kids later) s
+  go_on : (u : Task m) (kids later : Forest m) (s : m.Store) → IsFinished m u → SomeEvent later s
+      → SomeEvent (Node u kids later) s
   go_on u kids later s finished (ClaimInOrder q, enabled) = (ClaimInOrder (Later q), (enabled.0, (frame_all m (λ v. IsFinished m u) (λ v. finished) q later, enabled.1)))
   go_on u kids later s finished (ClaimReady q, enabled) = (ClaimReady (Later q), (enabled.0, (frame_all m (MayPass m rights u) (λ v. inl finished) q later, enabled.1)))
   go_on u kids later s finished (Step q, enabled) = (Step (Later q), enabled)
   go_on u kids later s finished (Finish q, enabled) = (Finish (Later q), enabled)
 
   -- by the phase of the first task
-  by_phase : (u : Task m) (kids later : Forest m) (s : m.Store) (ph : Phase) → u.phase ≡ ph → AllFinished m kids ⊎ SomeEvent kids s → AllFinished m later ⊎ SomeEvent later s → AllFinished m (Node u kids later) ⊎ SomeEvent (Node u kids later) s
+  by_phase : (u : Task m) (kids later : Forest m) (s : m.Store) (ph : Phase) → u.phase ≡ ph
+      → AllFinished m kids ⊎ SomeEvent kids s → AllFinished m later ⊎ SomeEvent later s
+      → AllFinished m (Node u kids later) ⊎ SomeEvent (Node u kids later) s
   by_phase u kids later s Unclaimed e below after = inr (ClaimInOrder Here, (e, tt))
   by_phase u kids later s Running e below after = inr (Step Here, e)
   by_phase u kids later s Ended e (inl all) after = inr (Finish Here, (e, all))

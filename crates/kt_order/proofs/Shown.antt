@@ -23,7 +23,8 @@ module _ (m : Machine) where
   embeds_after (u ∷ us) [] fs h = h
   embeds_after (u ∷ us) (e ∷ es) fs h = inr (embeds_after (u ∷ us) es fs h)
 
-  embeds_both : (us vs : List (Task m)) (es fs : List (Entry m)) → Embeds m us es → Embeds m vs fs → Embeds m (us ++ vs) (es ++ fs)
+  embeds_both : (us vs : List (Task m)) (es fs : List (Entry m)) → Embeds m us es → Embeds m vs fs
+      → Embeds m (us ++ vs) (es ++ fs)
   embeds_both [] vs es fs h k = embeds_after vs es fs k
   embeds_both (u ∷ us) vs [] fs h k = absurd h
   embeds_both (u ∷ us) vs (e ∷ es) fs (inl h) k = inl (h.0, embeds_both us vs es fs h.1 k)

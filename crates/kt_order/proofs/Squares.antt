@@ -36,17 +36,23 @@ not_child (k ∷ p) n = rw (not_child p n, eq_self k) refl
 
 module _ (m : Machine) where
   -- a change that leaves the forks leaves the counts
-  pub count_kept : (get : Known m) (p : List ℕ) (t : Task m) → forks_in m (standing m t) ≡ forks_in m (standing m (get p)) → count_of m (set_at p t get) ≡ count_of m get
+  pub count_kept : (get : Known m) (p : List ℕ) (t : Task m) → forks_in m (standing m t) ≡ forks_in m (standing m (get p))
+      → count_of m (set_at p t get) ≡ count_of m get
   count_kept get p t e = fun_ext (λ q. go q (same_path q p) refl)
     where
-      go : (q : List ℕ) (b : Bool) → same_path q p ≡ b → length (forks_in m (standing m (cond b t (get q)))) ≡ length (forks_in m (standing m (get q)))
+      go : (q : List ℕ) (b : Bool) → same_path q p ≡ b
+          → length (forks_in m (standing m (cond b t (get q)))) ≡ length (forks_in m (standing m (get q)))
       go q true same = rw (same_is q p same) (ap length e)
       go q false same = refl
 
-  pub count_forked : (get : Known m) (p : List ℕ) (n : ℕ) (t v : Task m) → length (forks_in m (standing m t)) ≡ suc (length (forks_in m (standing m (get p)))) → forks_in m (standing m v) ≡ [] → forks_in m (standing m (get (p ++ n ∷ []))) ≡ [] → count_of m (set_at (p ++ n ∷ []) v (set_at p t get)) ≡ bump p (count_of m get)
+  pub count_forked : (get : Known m) (p : List ℕ) (n : ℕ) (t v : Task m)
+      → length (forks_in m (standing m t)) ≡ suc (length (forks_in m (standing m (get p)))) → forks_in m (standing m v) ≡ []
+      → forks_in m (standing m (get (p ++ n ∷ []))) ≡ []
+      → count_of m (set_at (p ++ n ∷ []) v (set_at p t get)) ≡ bump p (count_of m get)
   count_forked get p n t v more none absent = fun_ext (λ q. go q (same_path q (p ++ n ∷ [])) (same_path q p) refl refl)
     where
-      go : (q : List ℕ) (a b : Bool) → same_path q (p ++ n ∷ []) ≡ a → same_path q p ≡ b → length (forks_in m (standing m (cond a v (cond b t (get q))))) ≡ cond b (suc (length (forks_in m (standing m (get q))))) (length (forks_in m (standing m (get q))))
+      go : (q : List ℕ) (a b : Bool) → same_path q (p ++ n ∷ []) ≡ a → same_path q p ≡ b
+          → length (forks_in m (standing m (cond a v (cond b t (get q))))) ≡ cond b (suc (length (forks_in m (standing m (get q))))) (length (forks_in m (standing m (get q))))
       go q true true ea eb =
           let e : q ≡ p = same_is q p eb in
           let f : same_path p (p ++ n ∷ []) ≡ true = subst (λ z. same_path z (p ++ n ∷ []) ≡ true) e ea in
@@ -57,10 +63,14 @@ module _ (m : Machine) where
 
   module _ (depth : ℕ) where
     -- a change of one task that leaves its forks
-    pub square : (h : Task m → Now m) (get : Known m) (p : List ℕ) → IsThere depth (count_of m get) p → forks_in m (standing m (put m h (get p))) ≡ forks_in m (standing m (get p)) → tree_of m depth (set_at p (put m h (get p)) get) (count_of m (set_at p (put m h (get p)) get)) ≡ change m (put m h) (same_frame m) (place_of p) (tree_of m depth get (count_of m get))
+    pub square : (h : Task m → Now m) (get : Known m) (p : List ℕ) → IsThere depth (count_of m get) p
+        → forks_in m (standing m (put m h (get p))) ≡ forks_in m (standing m (get p))
+        → tree_of m depth (set_at p (put m h (get p)) get) (count_of m (set_at p (put m h (get p)) get)) ≡ change m (put m h) (same_frame m) (place_of p) (tree_of m depth get (count_of m get))
     square h get p there e = ap (tree_of m depth (set_at p (put m h (get p)) get)) (count_kept get p (put m h (get p)) e) ∙ tree_change m h depth get (count_of m get) p there
 
-    pub square_forked : (c : m.Call) (get : Known m) (p : List ℕ) → HasRoom depth p → IsThere depth (count_of m get) p → length (forks_in m (standing m (put m (forked m) (get p)))) ≡ suc (count_of m get p) → forks_in m (standing m (get (p ++ count_of m get p ∷ []))) ≡ []
+    pub square_forked : (c : m.Call) (get : Known m) (p : List ℕ) → HasRoom depth p → IsThere depth (count_of m get) p
+        → length (forks_in m (standing m (put m (forked m) (get p)))) ≡ suc (count_of m get p)
+        → forks_in m (standing m (get (p ++ count_of m get p ∷ []))) ≡ []
         → tree_of m depth (set_at (p ++ count_of m get p ∷ []) (fresh m c) (set_at p (put m (forked m) (get p)) get)) (count_of m (set_at (p ++ count_of m get p ∷ []) (fresh m c) (set_at p (put m (forked m) (get p)) get))) ≡ change m (put m (forked m)) (add_last m (fresh m c)) (place_of p) (tree_of m depth get (count_of m get))
     square_forked c get p room there more absent =
         let n = count_of m get p in
@@ -71,7 +81,8 @@ module _ (m : Machine) where
         ∙ change_twice m (put m (forked m)) (λ u. u) (same_frame m) (add_last m (fresh m c)) (place_of p) (tree_of m depth get (count_of m get))))
 
     -- what is left at the place of a path is what is left of its task
-    pub left_there : (get : Known m) (p : List ℕ) → IsThere depth (count_of m get) p → left_at m (place_of p) (tree_of m depth get (count_of m get)) ≡ left m (get p)
+    pub left_there : (get : Known m) (p : List ℕ) → IsThere depth (count_of m get) p
+        → left_at m (place_of p) (tree_of m depth get (count_of m get)) ≡ left m (get p)
     left_there get p there =
         let F = tree_of m depth get (count_of m get) in
         let A = λ (u : Task m) (kids : Forest m). u ≡ get p in

@@ -17,16 +17,19 @@ module _ (m : Machine) (r : Rights m) where
 
   -- a loop whose zeroing is done begins
   abbrev pub LoopBegins : Type 0
-  LoopBegins = Laws m r → (root : m.Call) (s : m.Store) (x : State m) (q : Place) (cs : List m.Call) (f : Option m.Fault) → Lawful m r root s x → AreIndexes m r cs
+  LoopBegins = Laws m r → (root : m.Call) (s : m.Store) (x : State m) (q : Place) (cs : List m.Call) (f : Option m.Fault)
+      → Lawful m r root s x → AreIndexes m r cs
       → At m (λ u kids. (u.phase ≡ Running) × (left m u ≡ forks_then m cs f) × (kids ≡ Nil)) q x.forest
       → let es = begin_events q (length cs) in Follows m r es x × LoopAt (whole_book (length cs)) q (run m es x)
 
   -- to cut a piece in two changes the book alone
   abbrev pub LoopSplits : Type 0
-  LoopSplits = (x : State m) (q : Place) (b : Book) (at : ℕ) → LoopAt b q x → LoopAt (record { pieces = cut at b.pieces; unretired = b.unretired }) q x
+  LoopSplits = (x : State m) (q : Place) (b : Book) (at : ℕ) → LoopAt b q x
+      → LoopAt (record { pieces = cut at b.pieces; unretired = b.unretired }) q x
 
   abbrev pub LoopTakes : Type 0
-  LoopTakes = (x : State m) (q : Place) (b : Book) (at n : ℕ) → LoopAt b q x → CanTake at n b.pieces → let es = take_events q at n in Follows m r es x × LoopAt (record { pieces = take at n b.pieces; unretired = b.unretired }) q (run m es x)
+  LoopTakes = (x : State m) (q : Place) (b : Book) (at n : ℕ) → LoopAt b q x → CanTake at n b.pieces
+      → let es = take_events q at n in Follows m r es x × LoopAt (record { pieces = take at n b.pieces; unretired = b.unretired }) q (run m es x)
 
   -- the next operation of an index that is under way
   abbrev pub LoopIndexGoes : Type 0
@@ -36,7 +39,9 @@ module _ (m : Machine) (r : Rights m) where
 
   -- to retire n indexes that have ended changes the book alone
   abbrev pub LoopRetires : Type 0
-  LoopRetires = (x : State m) (q : Place) (b : Book) (n : ℕ) → At m (λ u kids. HasBook m r b u kids × (n + length (phases m kids) ≤ b.unretired + done_in (phases m kids))) q x.forest → LoopAt (record { pieces = b.pieces; unretired = b.unretired - n }) q x
+  LoopRetires = (x : State m) (q : Place) (b : Book) (n : ℕ)
+      → At m (λ u kids. HasBook m r b u kids × (n + length (phases m kids) ≤ b.unretired + done_in (phases m kids))) q x.forest
+      → LoopAt (record { pieces = b.pieces; unretired = b.unretired - n }) q x
 
   -- with none unretired the loop can finish
   abbrev pub LoopFinishes : Type 0

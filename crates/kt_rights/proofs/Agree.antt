@@ -31,10 +31,12 @@ module _ (symmetric : AgreementIsSymmetric) (clash_symmetric : ClashIsSymmetric)
   })
 
   -- what is handed on is apart from all from which the call is apart
-  covered_apart : (xs ys zs : List Access) → clash_between xs ys ≡ false → EachOf (λ b. SomeOf (Covers b) xs) zs → clash_between zs ys ≡ false
+  covered_apart : (xs ys zs : List Access) → clash_between xs ys ≡ false → EachOf (λ b. SomeOf (Covers b) xs) zs
+      → clash_between zs ys ≡ false
   covered_apart xs ys zs h covered = between_by zs ys (λ b y j i. no_clash b y (λ object x x'. agrees b y j i object x x'))
     where
-      agrees : (b y : Access) → IsIn b zs → IsIn y ys → (object : ℕ) → HasObject b object → HasObject y object → agree_of b.mode y.mode ≡ true
+      agrees : (b y : Access) → IsIn b zs → IsIn y ys → (object : ℕ) → HasObject b object → HasObject y object
+          → agree_of b.mode y.mode ≡ true
       agrees b y j i object x x' =
           let k = pick (λ z. SomeOf (Covers z) xs) (λ z. z ≡ b) zs covered j in
           let cover = subst (λ (z : Access). SomeOf (Covers z) xs) k.2 k.1 in
@@ -56,20 +58,24 @@ module _ (symmetric : AgreementIsSymmetric) (clash_symmetric : ClashIsSymmetric)
   modes_agree c d (inl h) object element = each_by _ (p.accesses c) (λ a i. each_by _ (p.accesses d) (λ b j x y own own'. met_agree a b object (between_is (p.accesses c) (p.accesses d) a b h i j) x y))
   modes_agree c d (inr h) object element = each_by _ (p.accesses c) (λ a i. each_by _ (p.accesses d) (λ b j x y own own'. of_loop a b i (subst (IsIn b) h.same j) x y own own'))
     where
-      one : (a b : Access) → a ≡ b → (is_owned a.mode ≡ true) ⊎ (agree_of a.mode a.mode ≡ true) → Owns (Some h.first) a.mode element → Owns (Some h.second) b.mode element → agree_of a.mode b.mode ≡ true
+      one : (a b : Access) → a ≡ b → (is_owned a.mode ≡ true) ⊎ (agree_of a.mode a.mode ≡ true)
+          → Owns (Some h.first) a.mode element → Owns (Some h.second) b.mode element → agree_of a.mode b.mode ≡ true
       one a b same (inl owned) own own' =
           let first : element ≡ h.first = own owned in
           let second : element ≡ h.second = own' (subst (λ (z : Access). is_owned z.mode ≡ true) same owned) in
           absurd (h.differ (sym first ∙ second))
       one a b same (inr agree) own own' = subst (λ (z : Access). agree_of a.mode z.mode ≡ true) same agree
 
-      by_two : (a b : Access) → IsIn a (p.accesses c) → (a ≡ b) ⊎ ((clash_of a b ≡ false) ⊎ (clash_of b a ≡ false)) → HasObject a object → HasObject b object → Owns (Some h.first) a.mode element → Owns (Some h.second) b.mode element → agree_of a.mode b.mode ≡ true
+      by_two : (a b : Access) → IsIn a (p.accesses c) → (a ≡ b) ⊎ ((clash_of a b ≡ false) ⊎ (clash_of b a ≡ false))
+          → HasObject a object → HasObject b object → Owns (Some h.first) a.mode element → Owns (Some h.second) b.mode element
+          → agree_of a.mode b.mode ≡ true
       by_two a b i (inl same) x y own own' =
           let k = pick (λ z. is_postponed z.mode ≡ false) (λ z. z ≡ a) (p.accesses c) h.direct i in
           one a b same (self_agrees a.mode (subst (λ (z : Access). is_postponed z.mode ≡ false) k.2 k.1)) own own'
       by_two a b i (inr apart) x y own own' = either_agrees symmetric a b object apart x y
 
-      of_loop : (a b : Access) → IsIn a (p.accesses c) → IsIn b (p.accesses c) → HasObject a object → HasObject b object → Owns (p.own c) a.mode element → Owns (p.own d) b.mode element → agree_of a.mode b.mode ≡ true
+      of_loop : (a b : Access) → IsIn a (p.accesses c) → IsIn b (p.accesses c) → HasObject a object → HasObject b object
+          → Owns (p.own c) a.mode element → Owns (p.own d) b.mode element → agree_of a.mode b.mode ≡ true
       of_loop a b i j x y own own' =
           let k = two (λ z. z ≡ a) (λ z. z ≡ b) (p.accesses c) h.unalike i j in
           let apart = subst (λ (z : Access). (z ≡ b) ⊎ ((clash_of z b ≡ false) ⊎ (clash_of b z ≡ false))) k.2 (subst (λ (z : Access). (k.0 ≡ z) ⊎ ((clash_of k.0 z ≡ false) ⊎ (clash_of z k.0 ≡ false))) k.3 k.4) in

@@ -23,7 +23,8 @@ module _ (symmetric : AgreementIsSymmetric) (less : HandsOnLess) (p : Plan) (obe
       let f = two (λ z. z ≡ a) (Covers b) (p.accesses c) (obeys.unalike c fits) i cover in
       by_two f.1 f.3 (subst (λ (z : Access). (z ≡ f.1) ⊎ ((clash_of z f.1 ≡ false) ⊎ (clash_of f.1 z ≡ false))) f.2 f.4)
     where
-      by_two : (z : Access) → Covers b z → (a ≡ z) ⊎ ((clash_of a z ≡ false) ⊎ (clash_of z a ≡ false)) → agree_of a.mode b.mode ≡ true
+      by_two : (z : Access) → Covers b z → (a ≡ z) ⊎ ((clash_of a z ≡ false) ⊎ (clash_of z a ≡ false))
+          → agree_of a.mode b.mode ≡ true
       by_two z cover (inl same) = direct_agrees a.mode b.mode (subst (λ (w : Access). hands_on_of w.mode b.mode ≡ true) (sym same) cover.hands_on) direct
       by_two z cover (inr apart) = turned symmetric b.mode a.mode (less z.mode b.mode a.mode cover.hands_on (turned symmetric a.mode z.mode (either_agrees symmetric a z object apart x (covered_object b z object cover y))))
 
@@ -46,7 +47,8 @@ module _ (symmetric : AgreementIsSymmetric) (less : HandsOnLess) (p : Plan) (obe
   direct_by : (c d : p.Call) → Line c d → DirectModesAgree p c d
   direct_by c d line object = each_by _ (p.accesses c) (λ a i direct. each_by _ (p.accesses d) (λ b j x y. line a b i j direct object x y))
 
-  pub in_line : (c d e : p.Call) (es : List p.Call) → p.Fits c → HandsOn p c d → Chain (machine p) (rights p) d es e → DirectModesAgree p c d × DirectModesAgree p c e
+  pub in_line : (c d e : p.Call) (es : List p.Call) → p.Fits c → HandsOn p c d → Chain (machine p) (rights p) d es e
+      → DirectModesAgree p c d × DirectModesAgree p c e
   in_line c d e es fits how chain =
       let first = line_first c d fits how in
       (direct_by c d first, direct_by c e (line_chain es c d e first chain))

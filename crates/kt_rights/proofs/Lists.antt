@@ -36,7 +36,8 @@ not_both true false h e = cc
 not_both false y h e = cc
 
 -- accesses that do not clash agree where they meet
-pub met_agree : (a b : Access) (object : ℕ) → clash_of a b ≡ false → HasObject a object → HasObject b object → agree_of a.mode b.mode ≡ true
+pub met_agree : (a b : Access) (object : ℕ) → clash_of a b ≡ false → HasObject a object → HasObject b object
+    → agree_of a.mode b.mode ≡ true
 met_agree a b object h x y = not_both (shares a b) (agree_of a.mode b.mode) h (meet a.lo a.hi b.lo b.hi x.from x.below y.from y.below)
   where
     meet : (al ah bl bh : ℕ) → al ≤ object → object < ah → bl ≤ object → object < bh → nat_lt (max al bl) (min ah bh) ≡ true
@@ -52,19 +53,22 @@ either_false false false h = (refl, refl)
 pub both_false : (x y : Bool) → x ≡ false → y ≡ false → (x || y) ≡ false
 both_false x y h k = rw (h, k) refl
 
-none_clashes : (Q : Access → Type 0) (a : Access) (xs : List Access) → any_clash a xs ≡ false → SomeOf Q xs → (b : Access) × Q b × (clash_of a b ≡ false)
+none_clashes : (Q : Access → Type 0) (a : Access) (xs : List Access) → any_clash a xs ≡ false → SomeOf Q xs
+    → (b : Access) × Q b × (clash_of a b ≡ false)
 none_clashes Q a [] h some = absurd some
 none_clashes Q a (b ∷ xs) h (inl q) = (b, q, (either_false (clash_of a b) (any_clash a xs) h).0)
 none_clashes Q a (b ∷ xs) h (inr some) = none_clashes Q a xs (either_false (clash_of a b) (any_clash a xs) h).1 some
 
 -- an access of each of two lists that do not clash
-pub none_between : (P Q : Access → Type 0) (xs ys : List Access) → clash_between xs ys ≡ false → SomeOf P xs → SomeOf Q ys → (a : Access) × (b : Access) × P a × Q b × (clash_of a b ≡ false)
+pub none_between : (P Q : Access → Type 0) (xs ys : List Access) → clash_between xs ys ≡ false → SomeOf P xs → SomeOf Q ys
+    → (a : Access) × (b : Access) × P a × Q b × (clash_of a b ≡ false)
 none_between P Q [] ys h p q = absurd p
 none_between P Q (a ∷ xs) ys h (inl p) q = let k = none_clashes Q a ys (either_false (any_clash a ys) (clash_between xs ys) h).0 q in (a, k.0, p, k.1, k.2)
 none_between P Q (a ∷ xs) ys h (inr p) q = none_between P Q xs ys (either_false (any_clash a ys) (clash_between xs ys) h).1 p q
 
 -- one of two accesses of one list: they are the same, or do not clash
-pub two : (P Q : Access → Type 0) (xs : List Access) → clashes xs ≡ false → SomeOf P xs → SomeOf Q xs → (a : Access) × (b : Access) × P a × Q b × ((a ≡ b) ⊎ ((clash_of a b ≡ false) ⊎ (clash_of b a ≡ false)))
+pub two : (P Q : Access → Type 0) (xs : List Access) → clashes xs ≡ false → SomeOf P xs → SomeOf Q xs
+    → (a : Access) × (b : Access) × P a × Q b × ((a ≡ b) ⊎ ((clash_of a b ≡ false) ⊎ (clash_of b a ≡ false)))
 two P Q [] h p q = absurd p
 two P Q (a ∷ xs) h (inl p) (inl q) = (a, a, p, q, inl refl)
 two P Q (a ∷ xs) h (inl p) (inr q) = let k = none_clashes Q a xs (either_false (any_clash a xs) (clashes xs) h).0 q in (a, k.0, p, k.1, inr (inl k.2))

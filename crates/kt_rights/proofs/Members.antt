@@ -15,7 +15,8 @@ abbrev pub IsIn : Access → List Access → Type 0
 IsIn a xs = SomeOf (λ z. z ≡ a) xs
 
 -- accesses clash only where they share an object and their modes do not agree
-pub no_clash : (a b : Access) → ((object : ℕ) → HasObject a object → HasObject b object → agree_of a.mode b.mode ≡ true) → clash_of a b ≡ false
+pub no_clash : (a b : Access) → ((object : ℕ) → HasObject a object → HasObject b object → agree_of a.mode b.mode ≡ true)
+    → clash_of a b ≡ false
 no_clash a b h = by_share (shares a b) (agree_of a.mode b.mode) (λ e. shared a.lo a.hi b.lo b.hi e)
   where
     by_share : (x y : Bool) → (x ≡ true → y ≡ true) → (x && not y) ≡ false
@@ -28,7 +29,8 @@ no_clash a b h = by_share (shares a b) (agree_of a.mode b.mode) (λ e. shared a.
         let less : max a.lo b.lo < min a.hi b.hi = grind (arith, nat_tests) in
         h (max a.lo b.lo) (record { from = omega arith; below = omega (arith, less) }) (record { from = omega arith; below = omega (arith, less) })
 
-pub between_by : (xs ys : List Access) → ((a b : Access) → IsIn a xs → IsIn b ys → clash_of a b ≡ false) → clash_between xs ys ≡ false
+pub between_by : (xs ys : List Access) → ((a b : Access) → IsIn a xs → IsIn b ys → clash_of a b ≡ false)
+    → clash_between xs ys ≡ false
 between_by [] ys f = refl
 between_by (a ∷ xs) ys f = both_false (any_clash a ys) (clash_between xs ys) (against ys (λ b some. f a b (inl refl) some)) (between_by xs ys (λ c b i j. f c b (inr i) j))
   where
@@ -63,6 +65,7 @@ module _ (symmetric : AgreementIsSymmetric) where
   turned a b h = symmetric b a ∙ h
 
   -- two accesses of which neither clashes with the other
-  pub either_agrees : (a b : Access) (object : ℕ) → (clash_of a b ≡ false) ⊎ (clash_of b a ≡ false) → HasObject a object → HasObject b object → agree_of a.mode b.mode ≡ true
+  pub either_agrees : (a b : Access) (object : ℕ) → (clash_of a b ≡ false) ⊎ (clash_of b a ≡ false) → HasObject a object
+      → HasObject b object → agree_of a.mode b.mode ≡ true
   either_agrees a b object (inl h) x y = met_agree a b object h x y
   either_agrees a b object (inr h) x y = turned b.mode a.mode (met_agree b a object h y x)

@@ -14,7 +14,8 @@ modify_other zero (suc f) g h (x ∷ xs) ne = refl
 modify_other (suc e) zero g h (x ∷ xs) ne = refl
 modify_other (suc e) (suc f) g h (x ∷ xs) ne = ap (λ ys. x ∷ ys) (modify_other e f g h xs (λ q. ne (ap suc q)))
 
-modify_same : (e : ℕ) (g h : ℕ → ℕ) (s : List ℕ) → ((a : ℕ) → g (h a) ≡ h (g a)) → modify e g (modify e h s) ≡ modify e h (modify e g s)
+modify_same : (e : ℕ) (g h : ℕ → ℕ) (s : List ℕ) → ((a : ℕ) → g (h a) ≡ h (g a))
+    → modify e g (modify e h s) ≡ modify e h (modify e g s)
 modify_same e g h [] swaps = refl
 modify_same zero g h (x ∷ xs) swaps = rw (swaps x) refl
 modify_same (suc e) g h (x ∷ xs) swaps = ap (λ ys. x ∷ ys) (modify_same e g h xs swaps)
@@ -53,14 +54,16 @@ module _ (associates : FoldAssociates) (commutes : FoldCommutes) where
       let e : op ≡ other = cc (h.3, h.4) in
       rw (← e) (folds_swap op a v w)
 
-  pub stores_swap : (e f : ℕ) (x y : Deed) → (e ≡ f → DeedsAgree x y) → (s : List ℕ) → modify f (effect y) (modify e (effect x) s) ≡ modify e (effect x) (modify f (effect y) s)
+  pub stores_swap : (e f : ℕ) (x y : Deed) → (e ≡ f → DeedsAgree x y) → (s : List ℕ)
+      → modify f (effect y) (modify e (effect x) s) ≡ modify e (effect x) (modify f (effect y) s)
   stores_swap e f x y h s = elim (same_or e f) [
     | inl same ↦ rw same (modify_same f (effect y) (effect x) s (effects_swap x y (h same)))
     | inr ne ↦ modify_other e f (effect y) (effect x) s ne
   ]
 
 -- a load finds the same where the other act agrees
-found_by : (x y : Deed) (e f : ℕ) (s : List ℕ) → (e ≡ f → DeedsAgree x y) → (e ≡ f) ⊎ (e ≢ f) → found x (number_at e (modify f (effect y) s)) ≡ found x (number_at e s)
+found_by : (x y : Deed) (e f : ℕ) (s : List ℕ) → (e ≡ f → DeedsAgree x y) → (e ≡ f) ⊎ (e ≢ f)
+    → found x (number_at e (modify f (effect y) s)) ≡ found x (number_at e s)
 found_by Load y e f s h (inr ne) = number_other e f (effect y) s ne
 found_by Load Load e f s h (inl same) = number_kept e f s
 found_by Load (Store v) e f s h (inl same) = elim (h same) [ inl k ↦ cc (k.1) | inr k ↦ cc (k.3) ]
@@ -68,5 +71,6 @@ found_by Load (Fold op v) e f s h (inl same) = elim (h same) [ inl k ↦ cc (k.1
 found_by (Store v) y e f s h d = refl
 found_by (Fold op v) y e f s h d = refl
 
-pub found_same : (x y : Deed) (e f : ℕ) (s : List ℕ) → (e ≡ f → DeedsAgree x y) → found x (number_at e (modify f (effect y) s)) ≡ found x (number_at e s)
+pub found_same : (x y : Deed) (e f : ℕ) (s : List ℕ) → (e ≡ f → DeedsAgree x y)
+    → found x (number_at e (modify f (effect y) s)) ≡ found x (number_at e s)
 found_same x y e f s h = found_by x y e f s h (same_or e f)

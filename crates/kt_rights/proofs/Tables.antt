@@ -70,12 +70,14 @@ module _ (associates : FoldAssociates) (commutes : FoldCommutes) (p : Plan) (obe
   no_acts P (Fork d w) h = no_acts P w h
 
   -- after a fork: of a call, or of an index, after which nothing is done
-  after_fork : (c d : p.Call) → p.Fits c → HandsOn p c d ⊎ HasIndex p c d → (w : Code m) → (p.own d ≡ None) ⊎ Acts m (λ q. ⊥) w → Keeps (Directly p c) (Handed p c) w → Acts m (Past d) w
+  after_fork : (c d : p.Call) → p.Fits c → HandsOn p c d ⊎ HasIndex p c d → (w : Code m) → (p.own d ≡ None) ⊎ Acts m (λ q. ⊥) w
+      → Keeps (Directly p c) (Handed p c) w → Acts m (Past d) w
   after_fork c d fits (inl h) w last keeps = acts_past c d fits h w keeps
   after_fork c d fits (inr h) w (inl none) keeps = absurd (some_none h.index (p.own d) h.is none)
   after_fork c d fits (inr h) w (inr last) keeps = no_acts (Past d) w last
 
-  within : (c : p.Call) → p.Fits c → (w : Code m) → Keeps (Directly p c) (Handed p c) w → EndsWithIndexes p w → Within m (Directly p c) (Handed p c) Past w
+  within : (c : p.Call) → p.Fits c → (w : Code m) → Keeps (Directly p c) (Handed p c) w → EndsWithIndexes p w
+      → Within m (Directly p c) (Handed p c) Past w
   within c fits (Stop f) keeps ends = tt
   within c fits (Do q k) keeps ends = (keeps.0, λ a. within c fits (k a) (keeps.1 a) (ends a))
   within c fits (Fork d w) keeps ends = (keeps.0, after_fork c d fits keeps.0.how w ends.0 keeps.1, within c fits w keeps.1 ends.1)

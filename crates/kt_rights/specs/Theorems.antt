@@ -21,7 +21,9 @@ module _ (p : Plan) where
 
   -- every order of enabled events gives the sequential run
   abbrev pub AccessesFreeTheOrder : Type 0
-  AccessesFreeTheOrder = Obeys p → (root : p.Call) (s : List ℕ) (es : List Event) → p.Fits root → Follows (machine p) (rights p) es (opening (machine p) root s) → let x = run (machine p) es (opening (machine p) root s) in
+  AccessesFreeTheOrder = Obeys p → (root : p.Call) (s : List ℕ) (es : List Event) → p.Fits root
+      → Follows (machine p) (rights p) es (opening (machine p) root s)
+      → let x = run (machine p) es (opening (machine p) root s) in
       AllFinished (machine p) x.forest → whole (machine p) root s ≡ record { store = x.store; entries = settled (machine p) x.forest }
 
   -- the two modes agree wherever the two calls may touch one element
@@ -30,7 +32,9 @@ module _ (p : Plan) where
 
   -- two tasks under way, neither of them above the other
   abbrev pub SideBySideAgree : Type 0
-  SideBySideAgree = Obeys p → (root : p.Call) (s : List ℕ) (x : State (machine p)) → Lawful (machine p) (rights p) root s x → (a b : Place) (u v : Task (machine p)) → Separate a b → Stands (machine p) u a x.forest → Stands (machine p) v b x.forest → IsUnderWay (machine p) u → IsUnderWay (machine p) v → ModesAgree u.call v.call
+  SideBySideAgree = Obeys p → (root : p.Call) (s : List ℕ) (x : State (machine p)) → Lawful (machine p) (rights p) root s x
+      → (a b : Place) (u v : Task (machine p)) → Separate a b → Stands (machine p) u a x.forest → Stands (machine p) v b x.forest
+      → IsUnderWay (machine p) u → IsUnderWay (machine p) v → ModesAgree u.call v.call
 
   -- the direct modes of the one agree with the modes of the other on each object
   abbrev pub DirectModesAgree : p.Call → p.Call → Type 0
@@ -38,8 +42,10 @@ module _ (p : Plan) where
 
   -- a call forks a call, from which a third one comes
   abbrev pub InLineAgree : Type 0
-  InLineAgree = Obeys p → (c d e : p.Call) (es : List p.Call) → p.Fits c → HandsOn p c d → Chain (machine p) (rights p) d es e → DirectModesAgree c d × DirectModesAgree c e
+  InLineAgree = Obeys p → (c d e : p.Call) (es : List p.Call) → p.Fits c → HandsOn p c d → Chain (machine p) (rights p) d es e
+      → DirectModesAgree c d × DirectModesAgree c e
 
   -- two indexes of a loop, all of whose accesses are direct and none of which clash
   abbrev pub IndexesAreApart : Type 0
-  IndexesAreApart = Obeys p → (loop c d : p.Call) (first : HasIndex p loop c) (second : HasIndex p loop d) → p.Fits loop → EachOf (λ a. is_postponed a.mode ≡ false) (p.accesses loop) → first.index ≢ second.index → Apart p c d
+  IndexesAreApart = Obeys p → (loop c d : p.Call) (first : HasIndex p loop c) (second : HasIndex p loop d) → p.Fits loop
+      → EachOf (λ a. is_postponed a.mode ≡ false) (p.accesses loop) → first.index ≢ second.index → Apart p c d
