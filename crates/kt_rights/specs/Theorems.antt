@@ -9,9 +9,9 @@ use Rattle.kt_order.specs.Forest.{Place, Task}
 use Rattle.kt_order.specs.Events.{Event, State, opening, run, AllFinished, Follows}
 use Rattle.kt_order.specs.Lawful.{Lawful}
 use Rattle.kt_order.specs.Shown.{settled}
-use Rattle.kt_order.specs.Places.{Separate, Stands, IsUnderWay, Chain}
+use Rattle.kt_order.specs.Places.{Separate, IsAbove, Stands, IsUnderWay}
 use Rattle.kt_rights.specs.Plan.{Plan, machine}
-use Rattle.kt_rights.specs.Rights.{EachOf, Owns, HandsOn, HasIndex, Apart, rights, Obeys}
+use Rattle.kt_rights.specs.Rights.{EachOf, Owns, HandsOn, HasIndex, Handed, Apart, rights, Obeys}
 
 module _ (p : Plan) where
   abbrev pub TablesGiveLaws : Type 0
@@ -49,10 +49,15 @@ module _ (p : Plan) where
   abbrev pub DirectModesAgree : p.Call → p.Call → Type 0
   DirectModesAgree c d = (object : ℕ) → EachOf (λ a. is_postponed a.mode ≡ false → EachOf (MeetOn object a) (p.accesses d)) (p.accesses c)
 
-  -- a call forks a call, from which a third one comes
+  -- a call that is no loop
+  abbrev pub ForksCalls : p.Call → Type 0
+  ForksCalls c = (d : p.Call) → Handed p c d → HandsOn p c d
+
+  -- two tasks in one line, the upper one no loop
   abbrev pub InLineAgree : Type 0
-  InLineAgree = Obeys p → (c d e : p.Call) (es : List p.Call) → p.Fits c → HandsOn p c d → Chain (machine p) (rights p) d es e
-      → DirectModesAgree c d × DirectModesAgree c e
+  InLineAgree = Obeys p → (root : p.Call) (s : List ℕ) (x : State (machine p)) → Lawful (machine p) (rights p) root s x
+      → (a b : Place) (u v : Task (machine p)) → IsAbove a b → Stands (machine p) u a x.forest → Stands (machine p) v b x.forest
+      → ForksCalls u.call → DirectModesAgree u.call v.call
 
   -- two indexes of a loop, all of whose accesses are direct and none of which clash
   abbrev pub IndexesAreApart : Type 0
