@@ -15,7 +15,7 @@ use Rattle.kt_order.proofs.Ats.{at_more, before_more, before_any}
 
 module _ (m : Machine) where
   module _ (rights : Rights m) (l : Laws m rights) where
-    -- the shape stays where what the entry is known to be, A, gives what the change owes
+    -- the shape stays where what the task is known to be, A, gives what the change owes
     shape_by : (h : Task m → Now m) (g : Forest m → Forest m) (A : Task m → Forest m → Type 0)
         → ((u : Task m) (kids : Forest m) → A u kids → Good m h g rights u kids)
         → ((u v : Task m) (kids : Forest m) → A v kids → Beside m rights u v → Beside m rights u (put m h v))

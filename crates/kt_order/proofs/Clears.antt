@@ -38,7 +38,7 @@ module _ (m : Machine) where
         ap (λ r. joined m r (rest m later r.store)) one ∙ rw (rest_settled later sh.3 fin.1 s) refl
 
     module _ (p : m.Act) where
-      -- a running body that may do p: the entries above it may do it too, and none of them is unclaimed
+      -- a running body that may do p: the tasks above it may do it too, and none of them is unclaimed
       abbrev pub Runs : Task m → Forest m → Type 0
       Runs u kids = rights.Directly u.call p × (u.phase ≡ Running)
 
@@ -53,7 +53,7 @@ module _ (m : Machine) where
           (l.inherits u.call k.0.call p k.1 k.2.0, λ e. at_not_nil m Runs q kids at (unclaimed_bare m rights l u kids sh.0 e))
       top_above (Later q) (Node u kids later) sh at = top_above q later sh.3 at
 
-      -- an earlier entry, beside which v may be under way, with those below it
+      -- an earlier task, beside which v may be under way, with those below it
       one_clear : (u v : Task m) (kids : Forest m) → TaskOk m rights u kids → Shape m rights kids → Beside m rights u v → Above v
           → Passes m p (rest_of_one m u (rest m kids))
       one_clear u v kids ok sh (inl e) ab = absurd (ab.1 e)

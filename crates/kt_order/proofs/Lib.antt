@@ -32,3 +32,4 @@ pub mod PathThere
 pub mod PathDone
 pub mod PathEntries
 pub mod PathBegins
+pub mod LoopStays

@@ -1,4 +1,4 @@
--- A loop begins by operations of its body, and its indexes go on by theirs.
+-- A loop begins by the operations of its body.
 use Rattle.std.proofs.Common.{◌≡◌, ℕ, zero, suc, List, [], ◌∷◌, ◌++◌, length, replicate, Option, refl, sym, ap, subst, ◌∙◌, append_assoc, append-nil, length-append, arith}
 use Rattle.kt_order.specs.Body.{Stop, Fork}
 use Rattle.kt_order.specs.Machine.{Machine, Code}

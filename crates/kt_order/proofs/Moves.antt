@@ -84,7 +84,7 @@ module _ (m : Machine) where
             same = λ s. (kids s).same (alone m (m.tree c) s).store ∙ alone_answer (rights.Directly c) (free_own c f) (m.tree c) (acts_of (rights.Directly c) (rights.Handed c) (Past m rights) (m.tree c) w) s;
           }
 
-      -- one entry with those below it
+      -- one task with those below it
       pub one_passes : (u : Task m) → rights.Fits u.call
           → Within m (rights.Directly u.call) (rights.Handed u.call) (Past m rights) (left m u) → Free u.call
           → (K : m.Store → Run m) → Passes p K → Passes p (rest_of_one m u K)

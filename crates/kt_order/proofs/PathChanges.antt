@@ -32,7 +32,7 @@ module _ (m : Machine) where
       ap (λ (f : Known m). Node (f []) (sub f (shift k count)) (children_from m sub (set_at (j ∷ q) x get) count (suc k) n)) (shift_other k j q x get ne)
       ∙ ap (Node (get (k ∷ [])) (sub (shift k get) (shift k count))) (later_same sub get count j q x n (suc k) (omega arith))
 
-  -- the entry itself changes, and nothing below it
+  -- the task itself changes, and nothing below it
   grown_self : (depth : ℕ) (x : Task m) (get : Known m) (count : List ℕ → ℕ)
       → grown m depth (set_at [] x get) count ≡ grown m depth get count
   grown_self zero x get count = refl
@@ -43,7 +43,7 @@ module _ (m : Machine) where
       go k (suc n) = ap (Node (get (k ∷ [])) (grown m depth (shift k get) (shift k count))) (go (suc k) n)
 
   module _ (h : Task m → Now m) where
-    -- the change of the one entry, skip entries further on
+    -- the change of the one task, some tasks further on
     at_skip : (sub : Known m → (List ℕ → ℕ) → Forest m) (get : Known m) (count : List ℕ → ℕ) (j : ℕ) (q : List ℕ) (x : Task m) (r : Place)
         → ((later : Forest m) → Node (set_at q x (shift j get) []) (sub (set_at q x (shift j get)) (shift j count)) later ≡ change m (put m h) (same_frame m) r (Node (get (j ∷ [])) (sub (shift j get) (shift j count)) later))
         → (n k d : ℕ) → k + d ≡ j → d < n

@@ -45,7 +45,7 @@ module _ (m : Machine) where
   some_below zero get count = inl tt
   some_below (suc depth) get count = scan depth (some_below depth) get count (count []) 0 (omega arith) (λ i lt. absurd (omega arith))
 
-  -- main is finished, or some event is enabled at some path
+  -- the root is finished, or some event is enabled at some path
   pub some_goes : (depth : ℕ) (get : Known m) (count : List ℕ → ℕ)
       → ((get []).phase ≡ Finished) ⊎ (p : List ℕ) × IsThere depth count p × Goes depth get count p
   some_goes depth get count = root (get []).phase refl

@@ -45,7 +45,7 @@ module _ (m : Machine) where
   grown_none (suc depth) get count e = rw e refl
 
   module _ (v : Task m) where
-    -- one more child of the entry itself
+    -- one more child of the task itself
     add_here : (depth : ℕ) (get : Known m) (count : List ℕ → ℕ) (n : ℕ) → count (n ∷ []) ≡ 0 → (j k : ℕ) → k + j ≡ n
         → children_from m (grown m depth) (set_at (n ∷ []) v get) (bump [] count) k (suc j) ≡ add_last m v (children_from m (grown m depth) get count k j)
     add_here depth get count n none zero k e =
@@ -84,7 +84,7 @@ module _ (m : Machine) where
         ∙ ap (λ K. Node (get (k ∷ [])) K later) (below_add depth (shift k get) (shift k count) j p room there.1 none)))
         (count []) 0 k (omega arith) there.0
 
-    -- one more path is one more entry at the end of its frame
+    -- one more path is one more task at the end of its frame
     pub tree_add : (depth : ℕ) (get : Known m) (count : List ℕ → ℕ) (p : List ℕ) → HasRoom depth p → IsThere depth count p
         → count (p ++ count p ∷ []) ≡ 0
         → tree_of m depth (set_at (p ++ count p ∷ []) v get) (bump p count) ≡ change m (λ u. u) (add_last m v) (place_of p) (tree_of m depth get count)

@@ -10,7 +10,7 @@ module _ (m : Machine) where
     abbrev from_child : Forest m → Forest m
     from_child later = Node (get (j ∷ [])) (sub (shift j get) (shift j count)) later
 
-    -- what holds of each such frame holds some entries further on
+    -- what holds of each such frame holds some tasks further on
     module _ (X : Place → Forest m → Type 0) (further : (i : ℕ) (kids F : Forest m) (q : Place) → i < j → X q F → X (Later q) (Node (get (i ∷ [])) kids F)) (here : (later : Forest m) → X r (from_child later)) where
       skip_to : (n k d : ℕ) → k + d ≡ j → d < n → X (skip d r) (children_from m sub get count k n)
       skip_to zero k d e lt = absurd (omega arith)

@@ -68,7 +68,7 @@ module _ (m : Machine) where
   pub joined_nothing : (r : Run m) → joined m r (record { store = r.store; entries = [] }) ≡ r
   joined_nothing r = ap (λ (es : List (Entry m)). record { store = r.store; entries = es }) (append-nil r.entries)
 
-  -- one more entry at the end
+  -- one more task at the end
   pub rest_add_last : (v : Task m) (F : Forest m) (s : m.Store)
       → rest m (add_last m v F) s ≡ joined m (rest m F s) (rest m (Node v Nil Nil) (rest m F s).store)
   rest_add_last v Nil s = refl

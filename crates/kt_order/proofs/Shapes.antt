@@ -16,7 +16,7 @@ module _ (m : Machine) where
     all_change P (Down q) (Node u kids later) at all = all
     all_change P (Later q) (Node u kids later) at all = (all.0, all_change P q later at all.1)
 
-    -- what is known of the entry itself holds of it in its frame
+    -- what is known of the task itself holds of it in its frame
     pub at_frame : (A : Task m → Forest m → Type 0) (P : Task m → Type 0) → ((u : Task m) (kids : Forest m) → A u kids → P u)
         → (q : Place) (F : Forest m) → At m A q F → AtFrame m P q F
     at_frame A P f q Nil at = absurd at
@@ -32,7 +32,7 @@ module _ (m : Machine) where
     calls_change (Later q) (Node u kids later) = ap (λ cs. u.call ∷ cs) (calls_change q later)
 
     module _ (rights : Rights m) where
-      -- what the changed entry owes
+      -- what the changed task owes
       abbrev pub Good : Task m → Forest m → Type 0
       Good u kids = (u.phase ≡ Finished → (h u).phase ≡ Finished) × (TaskOk m rights u kids → Shape m rights kids → TaskOk m rights (put m h u) (g kids) × Shape m rights (g kids))
 

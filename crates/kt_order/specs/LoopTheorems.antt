@@ -1,14 +1,14 @@
 -- The statements on loops: each event of a loop is a list of enabled events of the theory, and keeps its book right.
-use Rattle.std.specs.Prelude.{◌≡◌, ℕ, ◌+◌, ◌-◌, ◌≤◌, List, length, Option, Some, ◌⊎◌}
+use Rattle.std.specs.Prelude.{◌≡◌, ◌≢◌, ℕ, ◌+◌, ◌-◌, ◌≤◌, List, length, Option, Some, ◌⊎◌}
 use Rattle.kt_order.specs.Lists.{nth}
 use Rattle.kt_order.specs.Machine.{Machine}
 use Rattle.kt_order.specs.Laws.{Rights, Laws}
 use Rattle.kt_order.specs.Forest.{Running, Place, Nil, At}
 use Rattle.kt_order.specs.Rest.{left}
-use Rattle.kt_order.specs.Events.{State, Finish, left_at, run, Enabled, Follows}
+use Rattle.kt_order.specs.Events.{Event, State, step, Finish, left_at, run, Enabled, Follows}
 use Rattle.kt_order.specs.Lawful.{Lawful}
 use Rattle.kt_order.specs.Books.{Book, done_in, whole_book, cut, CanTake, take}
-use Rattle.kt_order.specs.Loops.{child, begin_events, take_events, index_events, forks_then, phases, AreIndexes, HasBook}
+use Rattle.kt_order.specs.Loops.{child, event_place, begin_events, take_events, index_events, forks_then, phases, AreIndexes, HasBook}
 
 module _ (m : Machine) (r : Rights m) where
   -- the loop at the place has the book
@@ -47,7 +47,18 @@ module _ (m : Machine) (r : Rights m) where
   abbrev pub LoopFinishes : Type 0
   LoopFinishes = (x : State m) (q : Place) (b : Book) → LoopAt b q x → b.unretired ≡ 0 → Enabled m r (Finish q) x
 
+  abbrev pub IndexUnderWay : Place → State m → Type 0
+  IndexUnderWay q x = (i : ℕ) × At m (λ u kids. nth (phases m kids) i ≡ Some Running) q x.forest
+
+  abbrev pub CanRetire : Book → Place → State m → Type 0
+  CanRetire b q x = At m (λ u kids. 1 + length (phases m kids) ≤ b.unretired + done_in (phases m kids)) q x.forest
+
   -- until then an index can be taken, is under way, or can be retired
   abbrev pub LoopGoesOn : Type 0
   LoopGoesOn = (x : State m) (q : Place) (b : Book) → LoopAt b q x
-      → ((at : ℕ) × CanTake at 1 b.pieces) ⊎ (((i : ℕ) × At m (λ u kids. nth (phases m kids) i ≡ Some Running) q x.forest) ⊎ (At m (λ u kids. 1 + length (phases m kids) ≤ b.unretired + done_in (phases m kids)) q x.forest ⊎ (b.unretired ≡ 0)))
+      → ((at : ℕ) × CanTake at 1 b.pieces) ⊎ (IndexUnderWay q x ⊎ (CanRetire b q x ⊎ (b.unretired ≡ 0)))
+
+  -- an event that is done neither at the loop nor at one of its indexes leaves its book
+  abbrev pub LoopStays : Type 0
+  LoopStays = (x : State m) (q : Place) (b : Book) (e : Event) → LoopAt b q x → event_place e ≢ q
+      → ((i : ℕ) → event_place e ≢ child q i) → LoopAt b q (step m e x)

@@ -5,7 +5,7 @@ use Rattle.kt_order.specs.Body.{Stop, Do, Fork}
 use Rattle.kt_order.specs.Machine.{Machine, Code}
 use Rattle.kt_order.specs.Laws.{Rights}
 use Rattle.kt_order.specs.Forest.{Phase, Ended, Place, Here, Down, Later, Task, Forest, Nil, Node, calls}
-use Rattle.kt_order.specs.Events.{Event, ClaimReady, Step, Finish}
+use Rattle.kt_order.specs.Events.{Event, ClaimInOrder, ClaimReady, Step, Finish}
 use Rattle.kt_order.specs.Books.{Book, BookOk}
 
 -- the place of a task of a frame, by its number
@@ -28,6 +28,13 @@ begin_events q (suc n) = Step q ∷ begin_events q n
 abbrev pub take_events : Place → ℕ → ℕ → List Event
 take_events q at zero = []
 take_events q at (suc n) = ClaimReady (child q at) ∷ take_events q (suc at) n
+
+-- where an event is done
+abbrev pub event_place : Event → Place
+event_place (ClaimInOrder q) = q
+event_place (ClaimReady q) = q
+event_place (Step q) = q
+event_place (Finish q) = q
 
 module _ (m : Machine) where
   -- the next operation of an index: at its end it is finished too

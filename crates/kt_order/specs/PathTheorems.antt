@@ -3,7 +3,7 @@ use Rattle.std.specs.Prelude.{◌≡◌, ℕ, suc, ◌≤◌, List, [], ◌∷�
 use Rattle.kt_order.specs.Lists.{SomeOf}
 use Rattle.kt_order.specs.Body.{Stop, Do, Fork}
 use Rattle.kt_order.specs.Machine.{Machine, Code}
-use Rattle.kt_order.specs.Sequential.{whole}
+use Rattle.kt_order.specs.Sequential.{Entry, whole}
 use Rattle.kt_order.specs.Laws.{Rights, Laws}
 use Rattle.kt_order.specs.Forest.{Unclaimed, Running, Ended, Finished}
 use Rattle.kt_order.specs.Rest.{standing, left}
@@ -50,16 +50,24 @@ module _ (m : Machine) (r : Rights m) where
       → (x.get p).phase ≡ Running → left m (x.get p) ≡ Fork c w → IsLawfulAt depth root s x
       → IsLawfulAt depth root s (operate_at m (Fork c w) p x)
 
+  -- the task at the path can be claimed in order, goes on, or can finish
+  abbrev pub CanGo : ℕ → Named m → List ℕ → Type 0
+  CanGo depth x p = ((x.get p).phase ≡ Unclaimed) × Earlier m (λ u v. IsFinished m u) p x.get
+      ⊎ (((x.get p).phase ≡ Running)
+      ⊎ ((x.get p).phase ≡ Ended) × AllFinished m (children_at m depth p x.get (count_of m x.get)))
+
   -- the root is finished, or an event is enabled at some path
   abbrev pub SomePathGoes : Type 0
-  SomePathGoes = (depth : ℕ) (x : Named m)
-      → IsFinished m (x.get []) ⊎ (p : List ℕ) × IsTask depth x p × (((x.get p).phase ≡ Unclaimed) × Earlier m (λ u v. IsFinished m u) p x.get ⊎ (((x.get p).phase ≡ Running) ⊎ ((x.get p).phase ≡ Ended) × AllFinished m (children_at m depth p x.get (count_of m x.get))))
+  SomePathGoes = (depth : ℕ) (x : Named m) → IsFinished m (x.get []) ⊎ (p : List ℕ) × IsTask depth x p × CanGo depth x p
+
+  -- the entries of the tasks in the order of their paths
+  abbrev pub entries_of : ℕ → Named m → List (Entry m)
+  entries_of depth x = map (λ p. entry_of m (x.get p)) (all_paths depth (count_of m x.get))
 
   -- with the root finished, the run is that of the tasks in their order, and each task is finished
   abbrev pub FinishedByPaths : Type 0
-  FinishedByPaths = Laws m r → (depth : ℕ) (root : m.Call) (s : m.Store) (x : Named m) → IsLawfulAt depth root s x
-      → IsFinished m (x.get [])
-      → (whole m root s ≡ record { store = x.store; entries = map (λ p. entry_of m (x.get p)) (all_paths depth (count_of m x.get)) }) × ((p : List ℕ) → IsTask depth x p → IsFinished m (x.get p))
+  FinishedByPaths = Laws m r → (depth : ℕ) (root : m.Call) (s : m.Store) (x : Named m) → IsLawfulAt depth root s x → IsFinished m (x.get [])
+      → (whole m root s ≡ record { store = x.store; entries = entries_of depth x }) × ((p : List ℕ) → IsTask depth x p → IsFinished m (x.get p))
 
   -- what the task at a path has done is the beginning of what it does in the sequential run
   abbrev pub PathBeginsEntry : Type 0

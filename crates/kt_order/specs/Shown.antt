@@ -35,7 +35,7 @@ module _ (m : Machine) where
   settled Nil = []
   settled (Node u kids later) = entry_of u ∷ (settled kids ++ settled later)
 
-  -- what the task has done is the beginning of what the entry's body does
+  -- what the task has done is the beginning of what the body of the entry does
   pub record Begins (u : Task m) (e : Entry m) : Type 0 where
     pub call : e.call ≡ u.call
     pub more : List m.Answer

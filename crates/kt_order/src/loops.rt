@@ -1,6 +1,6 @@
 //! The laws of loops, whose indexes are children of their loop in the theory. The functions do nothing; their
 //! contracts are the laws.
-ghost use Rattle.kt_order.specs.LoopTheorems.{LoopBegins, LoopFinishes, LoopGoesOn, LoopIndexGoes, LoopRetires, LoopSplits, LoopTakes};
+ghost use Rattle.kt_order.specs.LoopTheorems.{LoopBegins, LoopFinishes, LoopGoesOn, LoopIndexGoes, LoopRetires, LoopSplits, LoopStays, LoopTakes};
 
 use crate::Program;
 
@@ -37,4 +37,9 @@ pub fn loop_finishes<P: Program>()
 /// Until then an index can be taken, is under way, or can be retired.
 pub fn loop_goes_on<P: Program>()
     ensures { LoopGoesOn P.machine P.rights }
+{}
+
+/// An event that is done elsewhere leaves the book of a loop.
+pub fn loop_stays<P: Program>()
+    ensures { LoopStays P.machine P.rights }
 {}

@@ -38,6 +38,7 @@ fn laws_of_loops_hold_of_a_program() {
     loops::loop_retires::<Idle>();
     loops::loop_finishes::<Idle>();
     loops::loop_goes_on::<Idle>();
+    loops::loop_stays::<Idle>();
 }
 
 #[test]

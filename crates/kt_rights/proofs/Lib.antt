@@ -6,3 +6,4 @@ pub mod Tables
 pub mod Members
 pub mod Agree
 pub mod Lines
+pub mod Adding

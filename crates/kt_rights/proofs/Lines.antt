@@ -4,10 +4,15 @@ use Rattle.kt_law.specs.Modes.{agree_of, is_postponed, hands_on_of}
 use Rattle.kt_law.specs.Accesses.{HasObject, clash_of}
 use Rattle.kt_law.specs.Laws.{AgreementIsSymmetric, HandsOnLess}
 use Rattle.kt_law.specs.declared.accesses.Access.{Access}
-use Rattle.kt_order.specs.Places.{Chain}
+use Rattle.kt_order.specs.Places.{IsAbove, Stands, Chain, HandedDown}
+use Rattle.kt_order.specs.Laws.{Laws}
+use Rattle.kt_order.specs.Forest.{Place, Task, Forest}
+use Rattle.kt_order.specs.Lawful.{TaskOk, Shape}
+use Rattle.kt_order.proofs.Ats.{at_more, at_says, at_shape}
+use Rattle.kt_order.proofs.Agree.{upper_goes_past}
 use Rattle.kt_rights.specs.Plan.{Plan, machine}
 use Rattle.kt_rights.specs.Rights.{SomeOf, Covers, HandsOn, HasIndex, rights, Obeys}
-use Rattle.kt_rights.specs.Theorems.{DirectModesAgree}
+use Rattle.kt_rights.specs.Theorems.{DirectModesAgree, ForksCalls}
 use Rattle.kt_rights.proofs.Lists.{pick, each_by, two}
 use Rattle.kt_rights.proofs.Members.{IsIn, direct_agrees, covered_object, turned, either_agrees}
 
@@ -47,8 +52,17 @@ module _ (symmetric : AgreementIsSymmetric) (less : HandsOnLess) (p : Plan) (obe
   direct_by : (c d : p.Call) → Line c d → DirectModesAgree p c d
   direct_by c d line object = each_by _ (p.accesses c) (λ a i direct. each_by _ (p.accesses d) (λ b j x y. line a b i j direct object x y))
 
-  pub in_line : (c d e : p.Call) (es : List p.Call) → p.Fits c → HandsOn p c d → Chain (machine p) (rights p) d es e
-      → DirectModesAgree p c d × DirectModesAgree p c e
-  in_line c d e es fits how chain =
-      let first = line_first c d fits how in
-      (direct_by c d first, direct_by c e (line_chain es c d e first chain))
+  -- and with those of all that comes from it
+  handed_line : (c e : p.Call) → p.Fits c → ForksCalls p c → HandedDown (machine p) (rights p) c e → DirectModesAgree p c e
+  handed_line c e fits calls ([], handed) = direct_by c e (line_first c e fits (calls e handed))
+  handed_line c e fits calls (d ∷ es, chain) = direct_by c e (line_chain es c d e (line_first c d fits (calls d chain.0)) chain.1)
+
+  fits_at : (a : Place) (u : Task (machine p)) (F : Forest (machine p)) → Shape (machine p) (rights p) F → Stands (machine p) u a F → p.Fits u.call
+  fits_at a u F sh at =
+      at_says (machine p) (p.Fits u.call) a F
+      (at_more (machine p) (λ v kids. (v ≡ u) × TaskOk (machine p) (rights p) v kids) (λ v kids. p.Fits u.call) (λ v kids h. subst (λ (t : Task (machine p)). p.Fits t.call) h.0 h.1.fits) a F
+      (at_shape (machine p) (rights p) (λ v kids. v ≡ u) a F sh at))
+
+  pub in_line : (laws : Laws (machine p) (rights p)) (F : Forest (machine p)) → Shape (machine p) (rights p) F → (a b : Place) (u v : Task (machine p)) → IsAbove a b
+      → Stands (machine p) u a F → Stands (machine p) v b F → ForksCalls p u.call → DirectModesAgree p u.call v.call
+  in_line laws F sh a b u v above x y calls = handed_line u.call v.call (fits_at a u F sh x) calls (upper_goes_past (machine p) (rights p) laws F sh a b u v above x y).0

@@ -2,3 +2,4 @@ pub mod Acts
 pub mod Plan
 pub mod Rights
 pub mod Theorems
+pub mod Example

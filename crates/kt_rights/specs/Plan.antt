@@ -43,7 +43,19 @@ module _ (p : Plan) where
   answer q s = found q.deed (number_at (place_of q) s)
 
   abbrev pub machine : Machine
-  machine = record { Store = List ℕ; Act = Act; Answer = ℕ; Call = p.Call; Fault = p.Fault; after = after; answer = answer; asks = λ q. is_load q.deed; none = 0; tree = p.tree; height = p.height }
+  machine = record {
+    Store = List ℕ;
+    Act = Act;
+    Answer = ℕ;
+    Call = p.Call;
+    Fault = p.Fault;
+    after = after;
+    answer = answer;
+    asks = λ q. is_load q.deed;
+    none = 0;
+    tree = p.tree;
+    height = p.height;
+  }
 
   -- two elements stand at one place only if they are the same
   abbrev pub IsOnePlace : Type 0

@@ -1,4 +1,5 @@
 //! The laws that the tables of modes give. The functions do nothing; their contracts are the laws.
+ghost use Rattle.kt_rights.specs.Example.{AddingObeys};
 ghost use Rattle.kt_rights.specs.Theorems.{AccessesFreeTheOrder, InLineAgree, IndexesAreApart, SideBySideAgree, TablesGiveApartLaws, TablesGiveLaws};
 
 use crate::Source;
@@ -41,10 +42,11 @@ pub fn side_by_side_agree<S: Source>()
     hands_on_less();
 }
 
-/// The direct modes of a task agree with the modes of all that come from it by forks.
+/// The direct modes of a task that is no loop agree with the modes of all tasks below it.
 pub fn in_line_agree<S: Source>()
     ensures { InLineAgree S.plan }
 {
+    tables_give_laws::<S>();
     agreement_is_symmetric();
     hands_on_less();
 }
@@ -52,4 +54,9 @@ pub fn in_line_agree<S: Source>()
 /// Two indexes of one loop, whose accesses are all direct, are apart.
 pub fn indexes_are_apart<S: Source>()
     ensures { IndexesAreApart S.plan }
+{}
+
+/// The premise of these laws can be met: a small program of two calls that add to one element keeps to its accesses.
+pub fn adding_obeys()
+    ensures { AddingObeys }
 {}

@@ -1,21 +1,21 @@
-ghost use Rattle.kt_order.specs.Body.{Stop};
-ghost use Rattle.std.specs.Prelude.{None, ℕ, [], zero, ◌+◌};
+ghost use Rattle.kt_rights.specs.Example.{adding};
 
 use crate::{Source, laws};
 
-/// A program of one call without accesses, whose body ends at once; each object has one element.
-struct Idle;
+/// Two calls that each add to one element.
+struct Adders;
 
-impl Source for Idle {
-    ghost plan = { record { Call = Unit {0}; Fault = ℕ; tree = λ c. Stop None; height = λ c. 0; Fits = λ c. Unit {0}; accesses = λ c. []; own = λ c. None; width = λ o. 1; place = λ o e. o + e } };
+impl Source for Adders {
+    ghost plan = { adding };
 }
 
 #[test]
 fn laws_hold_of_a_program() {
-    laws::tables_give_laws::<Idle>();
-    laws::tables_give_apart_laws::<Idle>();
-    laws::accesses_free_the_order::<Idle>();
-    laws::side_by_side_agree::<Idle>();
-    laws::in_line_agree::<Idle>();
-    laws::indexes_are_apart::<Idle>();
+    laws::adding_obeys();
+    laws::tables_give_laws::<Adders>();
+    laws::tables_give_apart_laws::<Adders>();
+    laws::accesses_free_the_order::<Adders>();
+    laws::side_by_side_agree::<Adders>();
+    laws::in_line_agree::<Adders>();
+    laws::indexes_are_apart::<Adders>();
 }
