@@ -1,0 +1,5 @@
+pub mod Elements
+pub mod Endings
+pub mod Opening
+pub mod Sizes
+pub mod Runs

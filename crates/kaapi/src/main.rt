@@ -1,0 +1,46 @@
+//! Answers a job on standard input: `kaapi seq`.
+#![tactic(auto)]
+
+mod exits;
+mod replies;
+mod thin;
+mod thin_names;
+mod thin_run;
+mod top;
+
+use crate::exits::Exit;
+use crate::top::top_plain;
+use kt_io::{StdSink, StdSource};
+use std::process::ExitCode;
+use std::{env, io};
+
+// The words after the program's name. Where they cannot be had, the status with which to end.
+fn words_of(rt: &HostRuntime) -> Result<Vec<String>, u8> {
+    let all = match env::args(rt) {
+        Ok(all) => all,
+        Err(error) if error.kind() == io::ErrorKind::OutOfMemory => return Err(Exit::NoMemory.code()),
+        Err(_) => return Err(USAGE),
+    };
+    let mut words = Vec::new(rt.alloc());
+    for word in all.skip(1) {
+        if words.push(word).is_err() {
+            return Err(Exit::NoMemory.code());
+        }
+    }
+    Ok(words)
+}
+
+/// The status where the words are no text.
+const USAGE: u8 = 2;
+
+fn main(rt: HostRuntime) -> ExitCode {
+    let status = match words_of(&rt) {
+        Ok(words) => {
+            let mut source = StdSource::new(rt.reader());
+            let mut sink = StdSink::new(io::writer(&rt));
+            top_plain(rt.alloc(), &words, &mut source, &mut sink).code()
+        }
+        Err(status) => status,
+    };
+    ExitCode::from(status)
+}

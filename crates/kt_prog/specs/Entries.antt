@@ -1,0 +1,36 @@
+-- The bodies that a run has done, as its lists of tasks, indexes and faults.
+use Rattle.std.specs.Prelude.{ℕ, List, [], ◌∷◌, Option, Some, None}
+use Rattle.std.specs.List.{flat_map}
+use Rattle.kt_order.specs.Sequential.{Entry}
+use Rattle.kt_prog.specs.Calls.{Job, Whole, Index}
+use Rattle.kt_prog.specs.Script.{Fault}
+use Rattle.kt_prog.specs.Reference.{Placed, machine_of}
+use Rattle.kt_prog.specs.Runs.{TaskRun, IndexRun, FaultRun}
+use Rattle.kt_prog.specs.declared.programs.Program.{Program}
+
+abbrev pub task_in : List ℕ → Job → List ℕ → List TaskRun
+task_in path (Whole call) loads = record { path = path; call = call; loads = loads } ∷ []
+task_in path (Index call i) loads = []
+
+abbrev pub index_in : List ℕ → Job → List ℕ → List IndexRun
+index_in path (Whole call) loads = []
+index_in path (Index call i) loads = record { path = path; index = i; loads = loads } ∷ []
+
+-- which index's body it is, none for the body of a call
+abbrev pub index_of : Job → Option ℕ
+index_of (Whole call) = None
+index_of (Index call i) = Some i
+
+abbrev pub fault_in : Placed → Option Fault → List FaultRun
+fault_in c None = []
+fault_in c (Some f) = record { path = c.path; index = index_of c.job; fault = f.law; line = f.line } ∷ []
+
+module _ (p : Program) where
+  abbrev pub tasks_of : List (Entry (machine_of p)) → List TaskRun
+  tasks_of = flat_map (λ e. task_in e.call.path e.call.job e.answers)
+
+  abbrev pub indexes_of : List (Entry (machine_of p)) → List IndexRun
+  indexes_of = flat_map (λ e. index_in e.call.path e.call.job e.answers)
+
+  abbrev pub faults_of : List (Entry (machine_of p)) → List FaultRun
+  faults_of = flat_map (λ e. fault_in e.call e.fault)

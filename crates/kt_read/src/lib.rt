@@ -1,0 +1,14 @@
+//! The reader of jobs, and the texts of answers.
+#![tactic(auto)]
+
+mod cursors;
+mod descent;
+mod rows;
+mod thin_jobs;
+mod tokens;
+mod words;
+
+pub use cursors::Thin;
+pub use rows::rows_bytes;
+pub use thin_jobs::read_thin;
+pub use tokens::{Mark, Symbol, Tok};

@@ -1,0 +1,4 @@
+pub mod Acts
+pub mod Plan
+pub mod Rights
+pub mod Theorems

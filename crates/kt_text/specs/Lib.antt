@@ -1,0 +1,9 @@
+pub mod Bytes
+pub mod Data
+pub mod Gaps
+pub mod Laws
+pub mod Lexemes
+pub mod Lexing
+pub mod Places
+pub mod Tokens
+pub mod Words

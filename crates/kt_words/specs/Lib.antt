@@ -1,0 +1,4 @@
+pub mod Places
+pub mod BitFields
+pub mod Words
+pub mod Laws
