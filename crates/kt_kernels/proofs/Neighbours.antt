@@ -38,13 +38,15 @@ behind_lane row right at b room is j lt =
           get_or_push here b 0 (j + 1) end ∙ is ∙ ap (element_behind row right) place
     ]
 
--- lane j of a vector of the elements from `at` on
-pub weighted_lane : (left : ℕ) (row : List ℕ) (right at before behind : ℕ) → at + 8 ≤ length row → before ≡ element_before left row at → behind ≡ element_behind row right (at + 7) → (j : ℕ) → j < 8 → (get_or (before ∷ chunk at 8 row) j 0 + 2 * get_or (chunk at 8 row) j 0 + get_or (chunk at 8 row ++ behind ∷ []) (j + 1) 0) % 2 ^ 64 ≡ weighted_at left row right (at + j)
-weighted_lane left row right at before behind room before_is behind_is j lt =
+-- lane j of a vector of the elements from `at` on, behind which the row goes on
+pub weighted_lane : (left : ℕ) (row : List ℕ) (right at before : ℕ) → at + 8 < length row → before ≡ element_before left row at → (j : ℕ) → j < 8 → (get_or (before ∷ chunk at 8 row) j 0 + 2 * get_or (chunk at 8 row) j 0 + get_or (chunk at 8 row ++ get_or row (at + 8) 0 ∷ []) (j + 1) 0) % 2 ^ 64 ≡ weighted_at left row right (at + j)
+weighted_lane left row right at before room before_is j lt =
     let here = chunk at 8 row in
     let a = get_or (before ∷ here) j 0 in
     let x = get_or here j 0 in
-    ap (λ z. (a + 2 * x + z) % 2 ^ 64) (behind_lane row right at behind room behind_is j lt)
+    let next : at + 8 ≡ at + 7 + 1 = omega arith in
+    let behind_is = get_or_default row (at + 8) 0 right room ∙ ap (λ k. get_or row k right) next in
+    ap (λ z. (a + 2 * x + z) % 2 ^ 64) (behind_lane row right at (get_or row (at + 8) 0) (omega arith) behind_is j lt)
     ∙ ap (λ y. (a + 2 * y + element_behind row right (at + j)) % 2 ^ 64) (get_or-chunk at 8 row j 0 lt)
     ∙ ap (λ y. (y + 2 * get_or row (at + j) 0 + element_behind row right (at + j)) % 2 ^ 64) (before_lane left row at before before_is j lt)
 

@@ -59,17 +59,18 @@ least_sums x sums ys fits long =
     ∙ ap (zip2 min sums) (saturated_lanes x ys fits long)
     ∙ zip2_after_map min (λ s y. min s (min (x + y) (2 ^ 64 - 1))) (λ y. (x + min y (2 ^ 64 - 1 - x)) % 2 ^ 64) (λ s y. ap (min s) (saturated x y fits)) sums ys
 
+get_or-chunk_at : (base c n : ℕ) (xs : List ℕ) (i : ℕ) → i < n → get_or (chunk (base + c) n xs) i 0 ≡ get_or xs (base + (c + i)) 0
+get_or-chunk_at base c n xs i lt =
+    let place : base + c + i ≡ base + (c + i) = omega arith in
+    get_or-chunk (base + c) n xs i 0 lt ∙ ap (λ e. get_or xs e 0) place
+
 -- a load of the n columns from c on
 pub chunk_is_map : (base c n : ℕ) (xs : List ℕ) → base + c + n ≤ length xs → chunk (base + c) n xs ≡ map (λ j. get_or xs (base + j) 0) (range_with_len c n)
 chunk_is_map base c n xs room =
     let f : ℕ → ℕ = λ j. get_or xs (base + j) 0 in
     let long : length (chunk (base + c) n xs) ≡ n = length-chunk (base + c) n xs room in
     ext_get_or 0 (chunk (base + c) n xs) (map f (range_with_len c n)) (long ∙ sym (length-map-range_with_len f c n))
-    (λ i lt.
-    let within : i < n = omega arith in
-    let place : base + c + i ≡ base + (c + i) = omega arith in
-    get_or-chunk (base + c) n xs i 0 within ∙ ap (λ e. get_or xs e 0) place
-    ∙ sym (get_or-map-range_with_len f c n i (c + i) 0 within refl))
+    (λ i lt. get_or-chunk_at base c n xs i (omega arith) ∙ sym (get_or-map-range_with_len f c n i (c + i) 0 (omega arith) refl))
 
 -- a step in each of n columns from c on
 pub zip2_columns : (h : ℕ → ℕ → ℕ) (sum_of : ℕ → ℕ) (sums : List ℕ) (base c n : ℕ) (xs : List ℕ) → base + c + n ≤ length xs → sums ≡ map sum_of (range_with_len c n) → zip2 h sums (chunk (base + c) n xs) ≡ map (λ j. h (sum_of j) (get_or xs (base + j) 0)) (range_with_len c n)

@@ -1,7 +1,5 @@
-use Rattle.std.proofs.Common.{◌≡◌, ℕ, ◌+◌, ◌*◌, ◌-◌, ◌<◌, ◌≤◌, length, get_or, ap, ◌∙◌, arith}
-use Rattle.std.proofs.lemmas.List.{get_or_default}
+use Rattle.std.proofs.Common.{◌≡◌, ℕ, ◌+◌, ◌*◌, ◌<◌, length, get_or, ◌∙◌, arith}
 use Rattle.std.proofs.lemmas.List.FromFn.{fill_by_all}
-use Rattle.kt_law.specs.PlainKernels.{element_behind}
 use Rattle.kt_kernels.proofs.Neighbours.{last_lane, weighted_at, weighted_lane}
 use Rattle.kt_kernels.proofs.Stored.{stored_vector}
 use Rattle.kt_kernels.proofs.rows.stencil.Goals as goal
@@ -10,20 +8,15 @@ pub loop-block-preserved : goal.loop-block-preserved
 loop-block-preserved c =
     let left = c.args.left in
     let row = c.args.row.now in
-    let right = c.args.right in
+    let weighted : ℕ → ℕ = weighted_at left row c.args.right in
     let at = c.loop-block.block * 8 in
-    let previous = c.loop-block.previous in
-    let room : at + 8 ≤ length row = omega arith in
-    let next : at + 8 ≡ at + 7 + 1 = omega arith in
-    let behind : get_or row (at + 8) 0 ≡ element_behind row right (at + 7) =
-    get_or_default row (at + 8) 0 right (omega arith) ∙ ap (λ k. get_or row k right) next in
+    let room : at + 8 < length row = omega arith in
+    let lane = weighted_lane left row c.args.right at (get_or c.loop-block.previous 7 0) room c.loop-block.invariant.before in
+    let lanes : (j : ℕ) → j < 8 → get_or c.weighted.result j 0 ≡ weighted (at + j) = λ j lt. c.weighted.ensures.values j lt ∙ lane j lt in
+    let stored = stored_vector weighted c.loop-block.out c.weighted.result at 8 c.weighted.ensures.lanes lanes (omega arith) c.loop-block.invariant.written in
     record {
       before = last_lane left row at ((c.loop-block.block + 1) * 8) (omega arith);
-      written = λ e lt.
-          stored_vector (weighted_at left row right) c.loop-block.out c.weighted.result at 8 c.weighted.ensures.lanes
-          (λ j within. c.weighted.ensures.values j within
-          ∙ weighted_lane left row right at (get_or previous 7 0) (get_or row (at + 8) 0) room c.loop-block.invariant.before behind j within)
-          (omega arith) c.loop-block.invariant.written e (omega arith);
+      written = λ e lt. stored e (omega arith);
     }
 
 pub returns : goal.returns

@@ -1,5 +1,4 @@
 use Rattle.std.proofs.Common.{◌≡◌, ℕ, ◌<◌, ◌*◌, get_or}
-use Rattle.kt_law.specs.PlainKernels.{element_before}
 use Rattle.kt_kernels.proofs.Neighbours.{AreWeighted, weighted_at}
 use Rattle.kt_kernels.proofs.rows.stencil.Given as goal
 
