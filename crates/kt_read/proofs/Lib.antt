@@ -5,3 +5,5 @@ pub mod ThinWhole
 pub mod WordNames
 pub mod ToData
 pub mod Reading
+pub mod Endings
+pub mod OneExpression
