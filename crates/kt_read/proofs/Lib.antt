@@ -7,3 +7,5 @@ pub mod ToData
 pub mod Reading
 pub mod Endings
 pub mod OneExpression
+pub mod OneStatement
+pub mod OneProgram

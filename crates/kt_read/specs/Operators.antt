@@ -41,16 +41,28 @@ entry_of (row ∷ rows) word = if bytes_eq word row.0 then Some row.1 else entry
 
 -- fun = "satadd" | "min" | "max" | "and" | "or" | "xor"
 unfoldable pub function_of : List ℕ → Option BinOp
-function_of word = entry_of ((codes "satadd", B.SatAdd) ∷ (codes "min", B.Min) ∷ (codes "max", B.Max) ∷ (codes "and", B.And) ∷ (codes "or", B.Or) ∷ (codes "xor", B.Xor) ∷ []) word
+function_of word =
+    entry_of
+    ((codes "satadd", B.SatAdd) ∷ (codes "min", B.Min) ∷ (codes "max", B.Max) ∷ (codes "and", B.And) ∷ (codes "or", B.Or) ∷
+    (codes "xor", B.Xor) ∷ []) word
 
 -- op = "add" | "min" | "max" | "and" | "or" | "xor"
 unfoldable pub op_of : List ℕ → Option Op
-op_of word = entry_of ((codes "add", O.Add) ∷ (codes "min", O.Min) ∷ (codes "max", O.Max) ∷ (codes "and", O.And) ∷ (codes "or", O.Or) ∷ (codes "xor", O.Xor) ∷ []) word
+op_of word =
+    entry_of
+    ((codes "add", O.Add) ∷ (codes "min", O.Min) ∷ (codes "max", O.Max) ∷ (codes "and", O.And) ∷ (codes "or", O.Or) ∷
+    (codes "xor", O.Xor) ∷ []) word
 
--- the direct modes of one word
+-- "r" | "w" | "x"
+abbrev pub direct_modes : List (List ℕ × Mode)
+direct_modes = (codes "r", D.R) ∷ (codes "w", D.W) ∷ (codes "x", D.X) ∷ []
+
 unfoldable pub direct_of : List ℕ → Option Mode
-direct_of word = entry_of ((codes "r", D.R) ∷ (codes "w", D.W) ∷ (codes "x", D.X) ∷ []) word
+direct_of word = entry_of direct_modes word
 
--- the postponed modes of one word
+-- "rp" | "wp" | "xp"
+abbrev pub postponed_modes : List (List ℕ × Mode)
+postponed_modes = (codes "rp", D.Rp) ∷ (codes "wp", D.Wp) ∷ (codes "xp", D.Xp) ∷ []
+
 unfoldable pub postponed_of : List ℕ → Option Mode
-postponed_of word = entry_of ((codes "rp", D.Rp) ∷ (codes "wp", D.Wp) ∷ (codes "xp", D.Xp) ∷ []) word
+postponed_of word = entry_of postponed_modes word
