@@ -9,3 +9,6 @@ pub mod Endings
 pub mod OneExpression
 pub mod OneStatement
 pub mod OneProgram
+pub mod MoreTokens
+pub mod OneText
+pub mod ThinIsWhole
