@@ -1,5 +1,5 @@
 -- What is read does not depend on what stands behind it.
-use Rattle.std.proofs.Common.{List, [], ◌∷◌, ◌++◌, Option, Bool, ℕ}
+use Rattle.std.proofs.Common.{List, ◌++◌, Option, Bool, ℕ}
 use Rattle.kt_law.specs.declared.operators.Op.{Op}
 use Rattle.kt_law.specs.declared.modes.Mode.{Mode}
 use Rattle.kt_prog.specs.declared.programs.Arg.{Arg}

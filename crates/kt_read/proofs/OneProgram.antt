@@ -3,7 +3,6 @@ use Rattle.std.proofs.Common.{◌≡◌, ℕ, Bool, true, false, List, [], ◌�
 use Rattle.std.specs.Str.{bytes_eq}
 use Rattle.std.proofs.lemmas.Slice.Eq.{bytes_eq-Decides}
 use Rattle.kt_law.specs.declared.places.Place.{Place}
-use Rattle.kt_law.specs.declared.operators.Op.{Op}
 use Rattle.kt_law.specs.declared.modes.Mode.{Mode}
 use Rattle.kt_law.specs.declared.modes.Mode.TheVariants.{Cw, Cwp}
 use Rattle.kt_prog.specs.declared.programs.Family.{Family}
@@ -12,7 +11,7 @@ use Rattle.kt_prog.specs.declared.programs.Main.{Main}
 use Rattle.kt_prog.specs.declared.programs.Param.{Param}
 use Rattle.kt_prog.specs.declared.programs.Program.{Program}
 use Rattle.kt_prog.specs.declared.programs.Sort.{Sort}
-use Rattle.kt_prog.specs.declared.programs.Sort.TheVariants.{Int, One, Many}
+use Rattle.kt_prog.specs.declared.programs.Sort.TheVariants.{One, Many}
 use Rattle.kt_prog.specs.declared.programs.Stmt.{Stmt}
 use Rattle.kt_prog.specs.declared.programs.Task.{Task}
 use Rattle.kt_read.specs.declared.tokens.Mark.{Mark}
@@ -23,7 +22,7 @@ use Rattle.kt_read.specs.declared.tokens.Tok.{Tok}
 use Rattle.kt_read.specs.Tokens.{◌·◌, named, numbered}
 use Rattle.kt_read.specs.ThinGrammar.{ReadsMaybe, left_out, written}
 use Rattle.kt_read.specs.Operators.{entry_of, direct_modes, direct_of, postponed_modes, postponed_of}
-use Rattle.kt_read.specs.Statements.{ReadsOp, ReadsBlock, block}
+use Rattle.kt_read.specs.Statements.{ReadsOp, ReadsBlock}
 use Rattle.kt_read.specs.Programs.{ReadsSize, single, range, ReadsFamily, family, ReadsDirect, direct, cumulative, ReadsPostponed, postponed, postponed_cumulative, ReadsParam, int, one_direct, one_postponed, many_postponed, ReadsParams, one_param, more_params, ReadsMaybeParams, no_params, some_params, ReadsTask, task, loop, ReadsMain, main, ReadsProgram, data_word, one_family, one_task, one_main}
 use Rattle.kt_read.proofs.ThinParts.{at_front}
 use Rattle.kt_read.proofs.Endings.{IsNotAt, elsewhere, same_head, same_tail, one_entry, no_entry}

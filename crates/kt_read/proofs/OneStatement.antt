@@ -1,5 +1,5 @@
 -- The same tokens are read as one argument, one block and one statement, which ends in one place.
-use Rattle.std.proofs.Common.{◌≡◌, ℕ, List, [], ◌∷◌, Option, Some, None, refl, ap, sym, subst, ◌∙◌}
+use Rattle.std.proofs.Common.{◌≡◌, ℕ, List, [], ◌∷◌, Option, Some, refl, ap, sym, subst}
 use Rattle.kt_law.specs.declared.places.Place.{Place}
 use Rattle.kt_law.specs.declared.operators.Op.{Op}
 use Rattle.kt_prog.specs.declared.programs.Arg.{Arg}
@@ -13,7 +13,7 @@ use Rattle.kt_read.specs.declared.tokens.Mark.TheVariants as T
 use Rattle.kt_read.specs.declared.tokens.Symbol.{Symbol}
 use Rattle.kt_read.specs.declared.tokens.Symbol.TheVariants as S
 use Rattle.kt_read.specs.declared.tokens.Tok.{Tok}
-use Rattle.kt_read.specs.Tokens.{◌·◌, named, numbered}
+use Rattle.kt_read.specs.Tokens.{◌·◌, named}
 use Rattle.kt_read.specs.Expressions.{ReadsExpr, alone, compared, ReadsSum, sum_of, ReadsProduct, product_of, ReadsAtom, number, name, element, function, group}
 use Rattle.kt_read.specs.Statements.{ReadsOp, op_word, ReadsArg, value, span, ReadsArgs, one_arg, more_args, ReadsMaybeArgs, no_args, some_args, ReadsForked, without_length, with_length, ReadsBlock, block, ReadsStmts, no_stmt, one_stmt, ReadsElse, no_else, else_block, ReadsStmt, let_stmt, set_stmt, store_stmt, fold_stmt, if_stmt, for_stmt, fork_stmt}
 use Rattle.kt_read.proofs.ThinParts.{at_front}

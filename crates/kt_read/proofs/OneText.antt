@@ -1,11 +1,10 @@
 -- The same bytes are read as one program, which ends in one place.
-use Rattle.std.proofs.Common.{◌≡◌, ℕ, List, [], ◌∷◌, ◌++◌, map, Result, Ok, refl, ap, sym, subst, ◌∙◌}
+use Rattle.std.proofs.Common.{◌≡◌, ℕ, List, [], ◌∷◌, ◌++◌, Result, Ok, refl, ap, sym, subst, ◌∙◌}
 use Rattle.std.proofs.lemmas.List.{append-nil, map-append}
 use Rattle.kt_law.specs.declared.places.Refusal.{Refusal}
 use Rattle.kt_prog.specs.declared.programs.Program.{Program}
 use Rattle.kt_text.specs.declared.tokens.Token.{Token}
-use Rattle.kt_text.specs.Tokens.{Lexes, next_token}
-use Rattle.kt_read.specs.declared.tokens.Tok.{Tok}
+use Rattle.kt_text.specs.Tokens.{Lexes}
 use Rattle.kt_read.specs.Programs.{ReadsProgram}
 use Rattle.kt_read.specs.Texts.{IsText}
 use Rattle.kt_read.specs.Words.{tok_of, toks_of}

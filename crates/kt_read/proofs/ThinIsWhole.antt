@@ -1,5 +1,5 @@
 -- What the thin grammar derives, the whole grammar derives.
-use Rattle.std.proofs.Common.{◌≡◌, ℕ, List, [], ◌∷◌, Some, codes, refl}
+use Rattle.std.proofs.Common.{◌≡◌, List, [], Some, codes, refl}
 use Rattle.kt_law.specs.declared.places.Place.{Place}
 use Rattle.kt_law.specs.declared.modes.Mode.TheVariants.{X}
 use Rattle.kt_prog.specs.declared.programs.Expr.{Expr}

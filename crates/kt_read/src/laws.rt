@@ -20,3 +20,16 @@ pub fn thin_is_whole()
 pub fn thin_job_is_text()
     ensures { ThinJobIsText }
 {}
+
+#[cfg(test)]
+mod tests {
+    use super::*;
+
+    #[test]
+    fn laws_have_callers() {
+        one_program();
+        one_text();
+        thin_is_whole();
+        thin_job_is_text();
+    }
+}
