@@ -5,3 +5,10 @@ pub mod ThinWhole
 pub mod WordNames
 pub mod ToData
 pub mod Reading
+pub mod Endings
+pub mod OneExpression
+pub mod OneStatement
+pub mod OneProgram
+pub mod MoreTokens
+pub mod OneText
+pub mod ThinIsWhole

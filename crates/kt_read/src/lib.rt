@@ -3,6 +3,7 @@
 
 mod cursors;
 mod descent;
+pub mod laws;
 mod rows;
 #[cfg(test)]
 mod tests;

@@ -1,0 +1,24 @@
+-- Statements of the laws of the grammar.
+use Rattle.std.specs.Prelude.{◌≡◌, ℕ, List, []}
+use Rattle.kt_prog.specs.declared.programs.Program.{Program}
+use Rattle.kt_read.specs.declared.tokens.Tok.{Tok}
+use Rattle.kt_read.specs.Programs.{ReadsProgram}
+use Rattle.kt_read.specs.Texts.{IsText}
+use Rattle.kt_read.specs.ThinGrammar.{ReadsThin}
+use Rattle.kt_read.specs.ThinJobs.{IsThinJob}
+
+-- no tokens derive from the grammar with two programs
+abbrev pub OneProgram : Type 0
+OneProgram = (p q : Program) (toks : List Tok) → ReadsProgram p toks [] → ReadsProgram q toks [] → p ≡ q
+
+-- no bytes are read as two programs, and none ends in two places
+abbrev pub OneText : Type 0
+OneText = (bytes : List ℕ) (p q : Program) (i j : ℕ) → IsText bytes p i → IsText bytes q j → (p ≡ q) × (i ≡ j)
+
+-- what derives from the thin grammar derives from the grammar, with the same program and the same rest
+abbrev pub ThinIsWhole : Type 0
+ThinIsWhole = (p : Program) (toks rest : List Tok) → ReadsThin p toks rest → ReadsProgram p toks rest
+
+-- so a thin job is a text of the grammar
+abbrev pub ThinJobIsText : Type 0
+ThinJobIsText = (bytes : List ℕ) (p : Program) (from : ℕ) → IsThinJob bytes p from → IsText bytes p from
