@@ -3,3 +3,4 @@ pub mod Endings
 pub mod Opening
 pub mod Sizes
 pub mod Runs
+pub mod OneAnswer

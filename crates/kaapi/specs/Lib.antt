@@ -4,3 +4,4 @@ pub mod ThinRun
 pub mod ThinNames
 pub mod Thin
 pub mod Top
+pub mod Laws

@@ -2,6 +2,7 @@
 #![tactic(auto)]
 
 mod exits;
+mod laws;
 mod replies;
 #[cfg(test)]
 mod tests;

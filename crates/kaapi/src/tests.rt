@@ -1,4 +1,5 @@
 use crate::exits::Exit;
+use crate::laws::one_answer;
 use crate::thin::THIN_BYTES;
 use crate::top::top_plain;
 use kt_io::{MemSink, MemSource};
@@ -138,4 +139,9 @@ fn a_job_of_one_byte_too_many(rt: HostRuntime) -> Result<(), Fail> {
         assert!(rt; found == exit, "{blanks}");
     }
     Ok(())
+}
+
+#[test]
+fn laws_have_callers() {
+    one_answer();
 }
