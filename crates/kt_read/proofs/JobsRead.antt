@@ -6,7 +6,7 @@ use Rattle.kt_prog.specs.declared.programs.Program.{Program}
 use Rattle.kt_text.specs.declared.tokens.Token.{Token}
 use Rattle.kt_text.specs.Tokens.{Lexes, next_token}
 use Rattle.kt_read.specs.declared.tokens.Tok.{Tok}
-use Rattle.kt_read.specs.Jobs.{IsPrefix, IsDeep, IsJob, GoesOn, IsUnread, malformed, unexpected, too_deep}
+use Rattle.kt_read.specs.Jobs.{IsJob, GoesOn, IsUnread, malformed, unexpected, too_deep}
 use Rattle.kt_read.specs.Programs.{ReadsProgram}
 use Rattle.kt_read.specs.Words.{tok_of, toks_of}
 use Rattle.kt_read.proofs.ThinParts.{at_front}
