@@ -12,7 +12,7 @@ use Rattle.kt_read.proofs.ThinParts.{at_front}
 use Rattle.kt_read.proofs.MoreTokens.{program_more}
 use Rattle.kt_read.proofs.OneProgram.{program_is}
 
-one_answer : {answer : Result Token Refusal} {t u : Token} → answer ≡ Ok t → answer ≡ Ok u → t ≡ u
+pub one_answer : {answer : Result Token Refusal} {t u : Token} → answer ≡ Ok t → answer ≡ Ok u → t ≡ u
 one_answer h k = cc
 
 lexed_stop : (bytes : List ℕ) (i j : ℕ) (ts : List Token) (at : ℕ) → Lexes bytes at ts i → Lexes bytes at ts j → i ≡ j
@@ -36,7 +36,7 @@ goes bytes i j (t ∷ ts) (u ∷ us) at h k =
     subst (λ (u : Token). Goes (t ∷ ts) (u ∷ us)) (sym same)
     (goes_behind t (goes bytes i j ts us t.stop h.1 (subst (λ (u : Token). Lexes bytes u.stop us j) same k.1)))
 
-no_toks : (bytes : List ℕ) (more : List Token) → toks_of bytes more ≡ [] → more ≡ []
+pub no_toks : (bytes : List ℕ) (more : List Token) → toks_of bytes more ≡ [] → more ≡ []
 no_toks bytes [] h = refl
 no_toks bytes (t ∷ more) h = absurd cc
 

@@ -1,7 +1,9 @@
 -- Statements of the laws of the grammar.
 use Rattle.std.specs.Prelude.{◌≡◌, ℕ, List, []}
+use Rattle.kt_law.specs.declared.places.Refusal.{Refusal}
 use Rattle.kt_prog.specs.declared.programs.Program.{Program}
 use Rattle.kt_read.specs.declared.tokens.Tok.{Tok}
+use Rattle.kt_read.specs.Jobs.{IsJob, IsUnread}
 use Rattle.kt_read.specs.Programs.{ReadsProgram}
 use Rattle.kt_read.specs.Texts.{IsText}
 use Rattle.kt_read.specs.ThinGrammar.{ReadsThin}
@@ -14,6 +16,14 @@ OneProgram = (p q : Program) (toks : List Tok) → ReadsProgram p toks [] → Re
 -- no bytes are read as two programs, and none ends in two places
 abbrev pub OneText : Type 0
 OneText = (bytes : List ℕ) (p q : Program) (i j : ℕ) → IsText bytes p i → IsText bytes q j → (p ≡ q) × (i ≡ j)
+
+-- no bytes are two jobs
+abbrev pub OneJob : Type 0
+OneJob = (bytes : List ℕ) (p q : Program) (i j : ℕ) → IsJob bytes p i → IsJob bytes q j → (p ≡ q) × (i ≡ j)
+
+-- no bytes are a job and are refused too
+abbrev pub JobIsRead : Type 0
+JobIsRead = (bytes : List ℕ) (p : Program) (from : ℕ) (refusal : Refusal) → IsJob bytes p from → IsUnread bytes refusal → ⊥
 
 -- what derives from the thin grammar derives from the grammar, with the same program and the same rest
 abbrev pub ThinIsWhole : Type 0

@@ -1,5 +1,5 @@
 //! Laws of the grammar. The functions do nothing; their contracts are the laws.
-ghost use Rattle.kt_read.specs.Laws.{OneProgram, OneText, ThinIsWhole, ThinJobIsText};
+ghost use Rattle.kt_read.specs.Laws.{JobIsRead, OneJob, OneProgram, OneText, ThinIsWhole, ThinJobIsText};
 
 /// The grammar is unambiguous: the same tokens are read as one program.
 pub fn one_program()
@@ -9,6 +9,16 @@ pub fn one_program()
 /// So the same bytes are read as one program, which ends in one place.
 pub fn one_text()
     ensures { OneText }
+{}
+
+/// In particular no bytes are two jobs.
+pub fn one_job()
+    ensures { OneJob }
+{}
+
+/// A job is refused nowhere.
+pub fn job_is_read()
+    ensures { JobIsRead }
 {}
 
 /// What is read by the thin grammar is read as the same program by the whole one.
@@ -29,6 +39,8 @@ mod tests {
     fn laws_have_callers() {
         one_program();
         one_text();
+        one_job();
+        job_is_read();
         thin_is_whole();
         thin_job_is_text();
     }
