@@ -1,5 +1,6 @@
 -- Which bytes are a job, and where the reader stops at others.
 use Rattle.std.specs.Prelude.{◌≡◌, ℕ, zero, suc, ◌+◌, ◌≤◌, List, [], ◌∷◌, ◌++◌, length, Ok, Err, ◌⊎◌}
+use Rattle.kt_law.specs.declared.limits.TheConstants.{BRACKETS, EXPRESSION_TOKENS}
 use Rattle.kt_law.specs.declared.places.P.TheVariants.{P4, P14}
 use Rattle.kt_law.specs.declared.places.Refusal.{Refusal}
 use Rattle.kt_prog.specs.declared.programs.Program.{Program}
@@ -46,8 +47,8 @@ abbrev pub opened : ℕ → List Tok → ℕ
 opened n [] = n
 opened n (t ∷ ts) = opened (open_behind n t.symbol) ts
 
--- t is the 257th token of an argument or an outermost expression of some text: 256 tokens of it stand before t, and it does
--- not end before t
+-- t is one token too many of an argument or an outermost expression of some text: as many of its tokens as there may be stand
+-- before t, and it does not end before t
 pub record IsLong (toks : List Tok) (t : Tok) : Type 0 where
   pub more : List Tok
   pub program : Program
@@ -57,12 +58,12 @@ pub record IsLong (toks : List Tok) (t : Tok) : Type 0 where
   pub rest : List Tok
   pub outermost : OuterProgram (toks ++ t ∷ more) from rest
   pub stands : toks ++ t ∷ more ≡ before ++ from
-  pub counted : length toks ≡ length before + 256
+  pub counted : length toks ≡ length before + EXPRESSION_TOKENS
   pub inside : length rest ≤ length more
 
--- t nests too deep behind these tokens: a 65th bracket is open, or an expression has a 257th token
+-- t nests too deep behind these tokens: it opens one bracket too many, or it is one token too many of an expression
 abbrev pub IsDeep : List Tok → Tok → Type 0
-IsDeep toks t = (IsOpening t.symbol × (64 ≤ opened 0 toks)) ⊎ IsLong toks t
+IsDeep toks t = (IsOpening t.symbol × (BRACKETS ≤ opened 0 toks)) ⊎ IsLong toks t
 
 -- none of these tokens does
 abbrev pub IsShallow : List Tok → Type 0
