@@ -26,3 +26,4 @@ pub mod Runs
 pub mod Entries
 pub mod Outcome
 pub mod Laws
+pub mod Sights
