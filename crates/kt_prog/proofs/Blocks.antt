@@ -10,6 +10,10 @@ use Rattle.kt_prog.specs.declared.programs.Stmt.{Stmt}
 use Rattle.kt_prog.specs.declared.programs.What.{What, What-F, map-What, out-What, fold_out-What}
 use Rattle.kt_prog.specs.declared.programs.What.TheOpen as W
 use Rattle.kt_prog.specs.declared.sight.Known.{Known}
+use Rattle.kt_law.specs.declared.places.Refusal.{Refusal}
+use Rattle.kt_prog.specs.Rules.{Breaches}
+use Rattle.kt_prog.specs.Refusals.{noted}
+use Rattle.kt_prog.proofs.Noted.{noted_append}
 use Rattle.kt_prog.proofs.Equations.{stmt_is}
 
 abbrev pub with_names : Scope → List Known → Scope
@@ -69,3 +73,16 @@ module _ (s : Scope) (xs : List Stmt) (i : ℕ) (x : Stmt) where
 
 pub block_none : (s : Scope) (xs : List Stmt) (i : ℕ) → length xs ≤ i → block_rules (map rules_of_stmt (drop i xs)) s ≡ []
 block_none s xs i h = let e : drop i xs ≡ [] = grind (arith, common_steps) in rw e refl
+
+pub noted_at : (b : Option Refusal) (rules : List StmtRules) (s t : Scope) → s ≡ t → noted b (block_rules rules s) ≡ noted b (block_rules rules t)
+noted_at b rules s t is = ap (λ r. noted b (block_rules rules r)) is
+
+pub block_step : (s : Scope) (xs : List Stmt) (i : ℕ) (x : Stmt) (seen : Scope) (b new : Option Refusal) → i < length xs → x ≡ get_or xs i x → seen ≡ behind s (take i xs)
+    → new ≡ noted b (rules_of_what x.what x.place seen).breaches
+    → noted b (block_rules (map rules_of_stmt (drop i xs)) (behind s (take i xs))) ≡ noted new (block_rules (map rules_of_stmt (drop (i + 1) xs)) (behind s (take (i + 1) xs)))
+block_step s xs i x seen b new h is scope note =
+    let rest : Breaches = block_rules (map rules_of_stmt (drop (i + 1) xs)) (behind s (take (i + 1) xs)) in
+    ap (noted b) (block_more s xs i x h is)
+    ∙ noted_append (rules_of_what x.what x.place (behind s (take i xs))).breaches rest b
+    ∙ ap (λ r. noted (noted b (rules_of_what x.what x.place r).breaches) rest) (sym scope)
+    ∙ ap (λ f. noted f rest) (sym note)

@@ -115,3 +115,23 @@ arguments_next s sorts args i sort a hs ha is ia b =
     ap (λ l. noted b (argument_rules l s (drop i args))) (split sorts i sort hs is)
     ∙ ap (λ l. noted b (argument_rules (sort ∷ drop (i + 1) sorts) s l)) (split args i a ha ia)
     ∙ noted_append (argument_rule a.place sort s a.what) (argument_rules (drop (i + 1) sorts) s (drop (i + 1) args)) b
+
+pub sorts_length : (params : List Param) → length (map (λ (p : Param). p.sort) params) ≡ length params
+sorts_length [] = refl
+sorts_length (p ∷ params) = ap suc (sorts_length params)
+
+pub task_step : (p : Program) (xs : List Task) (i : ℕ) (t : Task) (seen : Scope) (b mid new : Option Refusal) → i < length xs → t ≡ get_or xs i t → seen ≡ task_scope p t
+    → mid ≡ noted b (param_rules (is_loop_of t.index) (known_index t.index) no_params t.params) → new ≡ noted mid (body_rules seen t.body)
+    → noted b (task_rules p (drop i xs)) ≡ noted new (task_rules p (drop (i + 1) xs))
+task_step p xs i t seen b mid new h is scope first second =
+    tasks_next p xs i t h is b
+    ∙ ap (λ m. noted (noted m (body_rules (task_scope p t) t.body)) (task_rules p (drop (i + 1) xs))) (sym first)
+    ∙ ap (λ s. noted (noted mid (body_rules s t.body)) (task_rules p (drop (i + 1) xs))) (sym scope)
+    ∙ ap (λ m. noted m (task_rules p (drop (i + 1) xs))) (sym second)
+
+pub main_step : (p : Program) (xs : List Main) (i : ℕ) (m : Main) (seen : Scope) (b new : Option Refusal) → i < length xs → m ≡ get_or xs i m → seen ≡ main_scope p
+    → new ≡ noted b (body_rules seen m.body) → noted b (mains_rules p (drop i xs)) ≡ noted new (mains_rules p (drop (i + 1) xs))
+main_step p xs i m seen b new h is scope note =
+    mains_next p xs i m h is b
+    ∙ ap (λ s. noted (noted b (body_rules s m.body)) (mains_rules p (drop (i + 1) xs))) (sym scope)
+    ∙ ap (λ f. noted f (mains_rules p (drop (i + 1) xs))) (sym note)

@@ -20,6 +20,8 @@ use Rattle.kt_prog.specs.declared.checks.names.Names.TheViews as V
 use Rattle.kt_prog.specs.declared.checks.names.Sight.{Sight}
 use Rattle.kt_prog.specs.declared.sight.Kind.TheVariants.{Number}
 use Rattle.kt_prog.specs.declared.programs.Program.{Program}
+use Rattle.kt_prog.specs.declared.programs.Sort.{Sort}
+use Rattle.kt_prog.specs.declared.programs.Sort.TheVariants as S
 use Rattle.kt_prog.specs.declared.programs.Stmt.{Stmt}
 use Rattle.kt_prog.specs.declared.programs.Task.{Task}
 use Rattle.kt_prog.specs.declared.sight.Kind.{Kind}
@@ -101,14 +103,62 @@ lets_turn outer name = lets_out (V.Turn outer name) ∙ ap (λ x. lets_step (map
 abbrev scope_with : Sight → List Known → ℕ → Scope
 scope_with s names lets = record { families = s.program.now.families; tasks = s.program.now.tasks; in_main = s.in_main; in_loop = s.in_loop; names = names; lets = lets }
 
-pub turn_scope : (s : Sight) (n : Bor Names) (name : Bor (List ℕ)) → n.now ≡ V.Turn s.names name → scope_of (record s { names = n }) ≡ with_name (scope_of s) name.now Number
-turn_scope s n name is =
-    ap (λ m. scope_with s (names_in m) (lets_in m)) is
-    ∙ ap (λ k. scope_with s k (lets_in (V.Turn s.names name))) (names_turn s.names name)
+pub turn_scope : (s : Sight) (name : Bor (List ℕ)) → scope_with s (names_in (V.Turn s.names name)) (lets_in (V.Turn s.names name)) ≡ with_name (scope_of s) name.now Number
+turn_scope s name =
+    ap (λ k. scope_with s k (lets_in (V.Turn s.names name))) (names_turn s.names name)
     ∙ ap (λ k. scope_with s (names_in s.names.now ++ record { name = name.now; kind = Number } ∷ []) k) (lets_turn s.names name)
 
-pub block_scope : (s : Sight) (n : Bor Names) (stmts : Bor (List Stmt)) → n.now ≡ V.Block s.names stmts → scope_of (record s { names = n }) ≡ behind (scope_of s) stmts.now
-block_scope s n stmts is =
-    ap (λ m. scope_with s (names_in m) (lets_in m)) is
-    ∙ ap (λ k. scope_with s k (lets_in (V.Block s.names stmts))) (names_block s.names stmts)
+pub block_scope : (s : Sight) (stmts : Bor (List Stmt)) → scope_with s (names_in (V.Block s.names stmts)) (lets_in (V.Block s.names stmts)) ≡ behind (scope_of s) stmts.now
+block_scope s stmts =
+    ap (λ k. scope_with s k (lets_in (V.Block s.names stmts))) (names_block s.names stmts)
     ∙ ap (λ k. scope_with s (names_in s.names.now ++ let_names stmts.now) k) (lets_block s.names stmts)
+
+abbrev begun : Program → Bool → Bool → List Known → ℕ → Scope
+begun p in_main in_loop names lets = record { families = p.families; tasks = p.tasks; in_main = in_main; in_loop = in_loop; names = names; lets = lets }
+
+names_head : (t : Bor Task) → names_in (M.Head t) ≡ known_index t.now.index ++ map known_param t.now.params
+names_head t = names_out (M.Head t) ∙ ap (λ x. names_step (map-Names _ _ names_in x)) (V.outs-Head t)
+
+lets_head : (t : Bor Task) → lets_in (M.Head t) ≡ 0
+lets_head t = lets_out (M.Head t) ∙ ap (λ x. lets_step (map-Names _ _ lets_in x)) (V.outs-Head t)
+
+loop_some : (index : Option Index) → is_some index ≡ is_loop_of index
+loop_some None = refl
+loop_some (Some index) = refl
+
+pub head_scope : (p : Program) (t : Bor Task) (b : Bool) → b ≡ is_some t.now.index → begun p false b (names_in (M.Head t)) (lets_in (M.Head t)) ≡ task_scope p t.now
+head_scope p t b is =
+    ap (λ l. begun p false l (names_in (M.Head t)) (lets_in (M.Head t))) (is ∙ loop_some t.now.index)
+    ∙ ap (λ k. begun p false (is_loop_of t.now.index) k (lets_in (M.Head t))) (names_head t)
+    ∙ ap (λ k. begun p false (is_loop_of t.now.index) (known_index t.now.index ++ map known_param t.now.params) k) (lets_head t)
+
+pub main_scope_is : (p : Program) → begun p true false (names_in M.Nothing) (lets_in M.Nothing) ≡ main_scope p
+main_scope_is p =
+    ap (λ k. begun p true false k (lets_in M.Nothing)) (names_out M.Nothing ∙ ap (λ x. names_step (map-Names _ _ names_in x)) V.outs-Nothing)
+    ∙ ap (λ k. begun p true false [] k) (lets_out M.Nothing ∙ ap (λ x. lets_step (map-Names _ _ lets_in x)) V.outs-Nothing)
+
+counted_apart : (ints objects : ℕ) (sort : Sort) → counted (record { ints = ints; objects = objects }) sort
+    ≡ record { ints = (counted (record { ints = ints; objects = 0 }) sort).ints; objects = (counted (record { ints = 0; objects = objects }) sort).objects }
+counted_apart ints objects S.Int = refl
+counted_apart ints objects (S.One mode) = refl
+counted_apart ints objects (S.Many mode) = refl
+
+pub param_step : (in_loop : Bool) (index : Option Index) (ints objects ints' objects' : ℕ) (taken : Bool) (xs : List Param) (i : ℕ) (p : Param) (b mid new : Option Refusal)
+    → i < length xs → p ≡ get_or xs i p
+    → taken ≡ (is_some (kind_index index p.name) || is_some (known_of (map known_param (take i xs)) p.name))
+    → ints' ≡ (counted (record { ints = ints; objects = 0 }) p.sort).ints → objects' ≡ (counted (record { ints = 0; objects = objects }) p.sort).objects
+    → mid ≡ noted b (sort_rule in_loop (record { ints = ints; objects = objects }) p p.sort) → new ≡ noted mid (denied p.name_place P5 taken)
+    → noted b (param_rules in_loop (known_index index ++ map known_param (take i xs)) (record { ints = ints; objects = objects }) (drop i xs))
+    ≡ noted new (param_rules in_loop (known_index index ++ map known_param (take (i + 1) xs)) (record { ints = ints'; objects = objects' }) (drop (i + 1) xs))
+param_step in_loop index ints objects ints' objects' taken xs i p b mid new h is t wi wo first second =
+    let before = known_index index ++ map known_param (take (i + 1) xs) in
+    let rest : Counts → Breaches = λ c. param_rules in_loop (known_index index ++ map known_param (take (i + 1) xs)) c (drop (i + 1) xs) in
+    let c : Counts = record { ints = ints; objects = objects } in
+    let m : mid ≡ noted b (sort_rule in_loop (record { ints = ints; objects = objects }) p p.sort) = first in
+    params_next in_loop (known_index index) (record { ints = ints; objects = objects }) xs i p h is b
+    ∙ ap (λ q. noted (noted q (denied p.name_place P5 (is_some (known_of (known_index index ++ map known_param (take i xs)) p.name)))) (rest (counted (record { ints = ints; objects = objects }) p.sort))) (sym first)
+    ∙ ap (λ q. noted (noted mid (denied p.name_place P5 q)) (rest (counted (record { ints = ints; objects = objects }) p.sort))) (taken_is index (take i xs) p.name ∙ sym t)
+    ∙ ap (λ q. noted q (rest (counted (record { ints = ints; objects = objects }) p.sort))) (sym second)
+    ∙ ap (λ q. noted new (rest q)) (counted_apart ints objects p.sort)
+    ∙ ap (λ q. noted new (rest (record { ints = q; objects = (counted (record { ints = 0; objects = objects }) p.sort).objects }))) (sym wi)
+    ∙ ap (λ q. noted new (rest (record { ints = ints'; objects = q }))) (sym wo)

@@ -52,6 +52,7 @@ fn check_length(sight: &Sight, len: &Option<Expr>, found: &mut Option<Refusal>)
     }
 }
 
+#[tactic(auto, using(crate::proofs::Noted::noted_append))]
 fn check_names_in(sight: &Sight, what: &ArgWhat, found: &mut Option<Refusal>)
     ensures { found.new ≡ noted found.old (unknown_in_argument (scope_of sight.now) what.now) }
 {
@@ -78,7 +79,8 @@ fn check_sorts(sight: &Sight, sorts: &[Sort], args: &[Arg], found: &mut Option<R
     ensures { found.new ≡ noted found.old (argument_rules sorts.now (scope_of sight.now) args.now) }
 {
     for (i, arg) in args.iter().enumerate() {
-        check_argument(sight, sorts[i], arg, found);
+        let sort = &sorts[i];
+        check_argument(sight, *sort, arg, found);
     }
 }
 
@@ -87,7 +89,8 @@ fn check_given(sight: &Sight, params: &[Param], args: &[Arg], found: &mut Option
     ensures { found.new ≡ noted found.old (argument_rules (map sort_of params.now) (scope_of sight.now) args.now) }
 {
     for (i, arg) in args.iter().enumerate() {
-        check_argument(sight, params[i].sort, arg, found);
+        let param = &params[i];
+        check_argument(sight, param.sort, arg, found);
     }
 }
 
@@ -116,7 +119,7 @@ fn check_kernel(sight: &Sight, sorts: &[Sort], place: Place, len: &Option<Expr>,
     }
 }
 
-#[tactic(auto, using(crate::proofs::Noted::noted_append))]
+#[tactic(auto, using(crate::proofs::Noted::noted_append, crate::proofs::Noting::sorts_length))]
 fn check_task(sight: &Sight, task: &Task, place: Place, len: &Option<Expr>, args: &[Arg], found: &mut Option<Refusal>)
     ensures { found.new ≡ noted found.old (fork_rule (Some (target 0 task.now)) place (scope_of sight.now) len.now args.now) }
 {
@@ -133,10 +136,10 @@ fn check_task(sight: &Sight, task: &Task, place: Place, len: &Option<Expr>, args
     }
 }
 
-fn check_named(sight: &Sight, name: &Name, place: Place, len: &Option<Expr>, args: &[Arg], found: &mut Option<Refusal>)
-    ensures { found.new ≡ noted found.old (fork_rule (task_named 1 sight.now.program.now.tasks name.now) place (scope_of sight.now) len.now args.now) }
+fn check_named(sight: &Sight, tasks: &[Task], name: &Name, place: Place, len: &Option<Expr>, args: &[Arg], found: &mut Option<Refusal>)
+    ensures { found.new ≡ noted found.old (fork_rule (task_named 1 tasks.now name.now) place (scope_of sight.now) len.now args.now) }
 {
-    for task in sight.program.tasks.as_slice() {
+    for task in tasks {
         if task.name.is(name) {
             return check_task(sight, task, place, len, args, found);
         }
@@ -159,6 +162,7 @@ pub fn check_fork(sight: &Sight, name: &Name, place: Place, len: &Option<Expr>, 
     } else if "k_scan" == name.as_str() {
         check_kernel(sight, &SCAN, place, len, args, found);
     } else {
-        check_named(sight, name, place, len, args, found);
+        let tasks = sight.program.tasks.as_slice();
+        check_named(sight, tasks, name, place, len, args, found);
     }
 }

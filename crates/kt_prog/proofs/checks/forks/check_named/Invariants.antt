@@ -5,4 +5,4 @@ use Rattle.kt_prog.specs.Sights.{scope_of}
 use Rattle.kt_prog.proofs.checks.forks.check_named.Given as goal
 
 abbrev pub invariant-loop-task : goal.invariant-loop-task
-invariant-loop-task l = fork_rule (task_named 1 l.sight.program.now.tasks l.name) l.place (scope_of l.sight) l.len l.args ≡ fork_rule (task_named (suc l.task-index) (drop l.task-index l.sight.program.now.tasks) l.name) l.place (scope_of l.sight) l.len l.args
+invariant-loop-task l = (l.found ≡ l.fn.found) × (fork_rule (task_named 1 l.tasks l.name) l.place (scope_of l.sight) l.len l.args ≡ fork_rule (task_named (suc l.task-index) (drop l.task-index l.tasks) l.name) l.place (scope_of l.sight) l.len l.args)

@@ -3,7 +3,7 @@ use Rattle.kt_prog.specs.StatementRules.{block_rules, rules_of_stmt, rules_of_wh
 use Rattle.kt_prog.specs.Refusals.{noted}
 use Rattle.kt_prog.proofs.Noted.{noted_append}
 use Rattle.kt_prog.proofs.Equations.{what_let, what_set, what_store, what_fold, what_if, what_for, what_fork}
-use Rattle.kt_prog.proofs.Blocks.{behind_none, block_more, block_none}
+use Rattle.kt_prog.proofs.Blocks.{behind_none, block_none, block_step, noted_at}
 use Rattle.kt_prog.proofs.Sighting.{block_scope, turn_scope}
 use Rattle.kt_prog.proofs.checks.statements.+statements.Goals as goal
 
@@ -23,20 +23,17 @@ pub check_what-returns-in-If : goal.check_what-returns-in-If
 check_what-returns-in-If t c = rw (c.in-If.is, what_if, noted_append, noted_append, c.check_block-in-If.ensures, c.check_block.ensures, c.check_expr-in-If.ensures, c.as_slice.ensures, c.as_slice-in-If.ensures) refl
 
 pub check_what-returns-in-For : goal.check_what-returns-in-For
-check_what-returns-in-For t c = rw (c.in-For.is, what_for, noted_append, noted_append, noted_append, c.check_block-in-For.ensures, c.check_expr-in-For-2.ensures, c.check_expr-in-For.ensures, c.check_new_name-in-For.ensures, c.as_slice-in-For.ensures) (ap (λ s. noted _ (block_rules (map rules_of_stmt c.in-For.body) s)) (turn_scope c.args.sight.now _ _ refl))
+check_what-returns-in-For t c = rw (c.in-For.is, what_for, noted_append, noted_append, noted_append, c.check_block-in-For.ensures, c.check_expr-in-For-2.ensures, c.check_expr-in-For.ensures, c.check_new_name-in-For.ensures, c.as_slice-in-For.ensures) (noted_at _ _ _ _ (turn_scope c.args.sight.now _))
 
 pub check_what-returns-in-Fork : goal.check_what-returns-in-Fork
 check_what-returns-in-Fork t c = rw (c.in-Fork.is, what_fork, noted_append, c.check_fork.ensures, c.note_if.ensures, c.as_slice-in-Fork.ensures) refl
 
 pub check_block-loop-i-init : goal.check_block-loop-i-init
-check_block-loop-i-init t c = ap (λ s. noted _ (block_rules _ s)) (sym (behind_none _))
+check_block-loop-i-init t c = noted_at _ _ _ _ (sym (behind_none _))
 
 pub check_block-loop-i-preserved : goal.check_block-loop-i-preserved
 check_block-loop-i-preserved t c =
-    c.loop-i.invariant
-    ∙ ap (noted c.loop-i.found) (block_more _ _ _ _ c.loop-i-test.true c.index-stmts-i.is)
-    ∙ noted_append _ _ _
-    ∙ ap (λ f. noted f _) (sym (c.check_what.ensures ∙ ap (λ s. noted c.loop-i.found (rules_of_what _ _ s).breaches) (block_scope c.args.sight.now _ _ refl)))
+    c.loop-i.invariant ∙ block_step _ _ _ _ _ _ _ c.loop-i-test.true c.index-stmts-i.is (block_scope c.args.sight.now _) c.check_what.ensures
 
 pub check_block-returns : goal.check_block-returns
 check_block-returns t c = sym (c.loop-i.invariant ∙ ap (noted c.loop-i.found) (block_none _ _ _ c.loop-i-test.false))
