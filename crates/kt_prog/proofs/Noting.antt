@@ -109,12 +109,15 @@ module _ (place : Place) (s : Scope) (len : Option Expr) (args : List Arg) (name
       ∙ noted_append (broken_at place P6 ++ length_rule s len) (unknown_in_all s args) b
       ∙ ap (λ f. noted f (unknown_in_all s args)) (noted_append (broken_at place P6) (length_rule s len) b)
 
-pub arguments_next : (s : Scope) (sorts : List Sort) (args : List Arg) (i : ℕ) (sort : Sort) (a : Arg) → i < length sorts → i < length args → sort ≡ get_or sorts i sort → a ≡ get_or args i a → (b : Option Refusal)
-    → noted b (argument_rules (drop i sorts) s (drop i args)) ≡ noted (noted b (argument_rule a.place sort s a.what)) (argument_rules (drop (i + 1) sorts) s (drop (i + 1) args))
-arguments_next s sorts args i sort a hs ha is ia b =
-    ap (λ l. noted b (argument_rules l s (drop i args))) (split sorts i sort hs is)
+pub arguments_step : (s : Scope) (sorts : List Sort) (args : List Arg) (i : ℕ) (sort d : Sort) (a : Arg) (b new : Option Refusal) → i < length sorts → i < length args → sort ≡ get_or sorts i d → a ≡ get_or args i a
+    → new ≡ noted b (argument_rule a.place sort s a.what)
+    → noted b (argument_rules (drop i sorts) s (drop i args)) ≡ noted new (argument_rules (drop (i + 1) sorts) s (drop (i + 1) args))
+arguments_step s sorts args i sort d a b new hs ha is ia note =
+    let front : drop i sorts ≡ sort ∷ drop (i + 1) sorts = rw (add-one, drop-cons sorts i d, ← is) refl in
+    ap (λ l. noted b (argument_rules l s (drop i args))) front
     ∙ ap (λ l. noted b (argument_rules (sort ∷ drop (i + 1) sorts) s l)) (split args i a ha ia)
     ∙ noted_append (argument_rule a.place sort s a.what) (argument_rules (drop (i + 1) sorts) s (drop (i + 1) args)) b
+    ∙ ap (λ f. noted f (argument_rules (drop (i + 1) sorts) s (drop (i + 1) args))) (sym note)
 
 pub sorts_length : (params : List Param) → length (map (λ (p : Param). p.sort) params) ≡ length params
 sorts_length [] = refl

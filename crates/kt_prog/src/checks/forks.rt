@@ -1,5 +1,5 @@
 // The rules of forks.
-ghost use Rattle.std.specs.Prelude.{◌≡◌, length, map, Some};
+ghost use Rattle.std.specs.Prelude.{◌≡◌, length, map, nat_eq, true, Some};
 ghost use Rattle.kt_prog.specs.ForkRules.{argument_rules, fork_rule, is_formed, length_rule, unknown_in_all, unknown_in_argument};
 ghost use Rattle.kt_prog.specs.Targets.{is_loop_of, kernel, target, target_of, task_named};
 ghost use Rattle.kt_prog.specs.Refusals.{noted};
@@ -79,8 +79,7 @@ fn check_sorts(sight: &Sight, sorts: &[Sort], args: &[Arg], found: &mut Option<R
     ensures { found.new ≡ noted found.old (argument_rules sorts.now (scope_of sight.now) args.now) }
 {
     for (i, arg) in args.iter().enumerate() {
-        let sort = &sorts[i];
-        check_argument(sight, *sort, arg, found);
+        check_argument(sight, sorts[i], arg, found);
     }
 }
 
@@ -119,12 +118,20 @@ fn check_kernel(sight: &Sight, sorts: &[Sort], place: Place, len: &Option<Expr>,
     }
 }
 
-#[tactic(auto, using(crate::proofs::Noted::noted_append, crate::proofs::Noting::sorts_length))]
+#[tactic(auto, using(crate::proofs::Noting::sorts_length))]
+fn is_counted(task: &Task, args: &[Arg]) -> bool
+    ensures exact { result ≡ nat_eq (length args.now) (length (target 0 task.now).sorts) }
+    ensures same { result ≡ true → length args.now ≡ length task.now.params }
+{
+    args.len() == task.params.len()
+}
+
+#[tactic(auto, using(crate::proofs::Noted::noted_append))]
 fn check_task(sight: &Sight, task: &Task, place: Place, len: &Option<Expr>, args: &[Arg], found: &mut Option<Refusal>)
     ensures { found.new ≡ noted found.old (fork_rule (Some (target 0 task.now)) place (scope_of sight.now) len.now args.now) }
 {
     let params = task.params.as_slice();
-    let counted = args.len() == params.len();
+    let counted = is_counted(task, args);
     let formed = is_well_formed(&task.index, len);
     note_if(found, place, P::P7, !counted);
     note_if(found, place, P::P8, !formed);
