@@ -67,13 +67,13 @@ map_one (x ∷ xs) p = ap (λ l. known_param x ∷ l) (map_one xs p)
 pub params_next : (in_loop : Bool) (index : List Known) (c : Counts) (xs : List Param) (i : ℕ) (p : Param) → i < length xs → p ≡ get_or xs i p → (b : Option Refusal)
     → noted b (param_rules in_loop (index ++ map known_param (take i xs)) c (drop i xs))
     ≡ noted (noted (noted b (sort_rule in_loop c p p.sort)) (denied p.name_place P5 (is_some (known_of (index ++ map known_param (take i xs)) p.name))))
-      (param_rules in_loop (index ++ map known_param (take (i + 1) xs)) (counted c p.sort) (drop (i + 1) xs))
+    (param_rules in_loop (index ++ map known_param (take (i + 1) xs)) (counted c p.sort) (drop (i + 1) xs))
 params_next in_loop index c xs i p h is b =
     let before = index ++ map known_param (take i xs) in
     let d : drop i xs ≡ p ∷ drop (i + 1) xs = rw (add-one, drop-cons xs i p, ← is) refl in
     let t : take (i + 1) xs ≡ take i xs ++ p ∷ [] = rw (take_more xs i p, ← is) refl in
     let known : index ++ map known_param (take i xs) ++ known_param p ∷ [] ≡ index ++ map known_param (take (i + 1) xs) =
-        append_more index (map known_param (take i xs)) (known_param p ∷ []) ∙ ap (λ l. index ++ l) (sym (ap (map known_param) t ∙ map_one (take i xs) p)) in
+    append_more index (map known_param (take i xs)) (known_param p ∷ []) ∙ ap (λ l. index ++ l) (sym (ap (map known_param) t ∙ map_one (take i xs) p)) in
     let first = sort_rule in_loop c p p.sort in
     let name = denied p.name_place P5 (is_some (known_of (index ++ map known_param (take i xs)) p.name)) in
     let rest = param_rules in_loop (index ++ map known_param (take (i + 1) xs)) (counted c p.sort) (drop (i + 1) xs) in

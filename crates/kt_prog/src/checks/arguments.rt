@@ -10,10 +10,9 @@ ghost use Rattle.kt_prog.specs.Sights.{scope_of, wants_span};
 use super::exprs::check_expr;
 use super::least::{note, note_if};
 use super::names::{Sight, kind_at};
-use kt_law::{Mode, P, Place, Refusal, hands_on};
-
 use crate::programs::{Arg, ArgWhat, Expr, Sort};
 use crate::sight::Kind;
+use kt_law::{Mode, P, Place, Refusal, hands_on};
 
 /// Notes the names of the expression that aren't in sight.
 pub fn check_names(sight: &Sight, e: &Expr, found: &mut Option<Refusal>)

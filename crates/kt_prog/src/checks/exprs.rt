@@ -8,9 +8,9 @@ ghost use Rattle.kt_prog.specs.Sights.{scope_of};
 
 use super::least::{note, note_if};
 use super::names::{Sight, kind_at};
-use kt_law::{Mode, P, Place, Refusal};
-use crate::programs::{Expr};
+use crate::programs::Expr;
 use crate::sight::Kind;
+use kt_law::{Mode, P, Place, Refusal};
 
 fn is_loaded(mode: Mode) -> bool
     ensures { result ≡ may_load mode }

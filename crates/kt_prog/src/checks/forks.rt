@@ -21,6 +21,7 @@ const MUL: [Sort; 6] = [
     Sort::One(Mode::R),
     Sort::One(Mode::Cw(Op::Add)),
 ];
+
 const MINPLUS: [Sort; 6] = [
     Sort::Int,
     Sort::Int,
@@ -29,6 +30,7 @@ const MINPLUS: [Sort; 6] = [
     Sort::One(Mode::R),
     Sort::One(Mode::Cw(Op::Min)),
 ];
+
 const STENCIL: [Sort; 5] = [
     Sort::Int,
     Sort::One(Mode::R),
@@ -36,12 +38,8 @@ const STENCIL: [Sort; 5] = [
     Sort::One(Mode::R),
     Sort::One(Mode::W),
 ];
-const SCAN: [Sort; 4] = [
-    Sort::Int,
-    Sort::Int,
-    Sort::One(Mode::R),
-    Sort::One(Mode::X),
-];
+
+const SCAN: [Sort; 4] = [Sort::Int, Sort::Int, Sort::One(Mode::R), Sort::One(Mode::X)];
 
 fn check_length(sight: &Sight, len: &Option<Expr>, found: &mut Option<Refusal>)
     ensures { found.new ≡ noted found.old (length_rule (scope_of sight.now) len.now) }
@@ -103,7 +101,14 @@ fn is_well_formed(index: &Option<Index>, len: &Option<Expr>) -> bool
 }
 
 #[tactic(auto, using(crate::proofs::Noted::noted_append))]
-fn check_kernel(sight: &Sight, sorts: &[Sort], place: Place, len: &Option<Expr>, args: &[Arg], found: &mut Option<Refusal>)
+fn check_kernel(
+    sight: &Sight,
+    sorts: &[Sort],
+    place: Place,
+    len: &Option<Expr>,
+    args: &[Arg],
+    found: &mut Option<Refusal>,
+)
     ensures { found.new ≡ noted found.old (fork_rule (Some (kernel 0 sorts.now)) place (scope_of sight.now) len.now args.now) }
 {
     let counted = args.len() == sorts.len();
@@ -127,7 +132,14 @@ fn is_counted(task: &Task, args: &[Arg]) -> bool
 }
 
 #[tactic(auto, using(crate::proofs::Noted::noted_append))]
-fn check_task(sight: &Sight, task: &Task, place: Place, len: &Option<Expr>, args: &[Arg], found: &mut Option<Refusal>)
+fn check_task(
+    sight: &Sight,
+    task: &Task,
+    place: Place,
+    len: &Option<Expr>,
+    args: &[Arg],
+    found: &mut Option<Refusal>,
+)
     ensures { found.new ≡ noted found.old (fork_rule (Some (target 0 task.now)) place (scope_of sight.now) len.now args.now) }
 {
     let params = task.params.as_slice();
@@ -143,7 +155,15 @@ fn check_task(sight: &Sight, task: &Task, place: Place, len: &Option<Expr>, args
     }
 }
 
-fn check_named(sight: &Sight, tasks: &[Task], name: &Name, place: Place, len: &Option<Expr>, args: &[Arg], found: &mut Option<Refusal>)
+fn check_named(
+    sight: &Sight,
+    tasks: &[Task],
+    name: &Name,
+    place: Place,
+    len: &Option<Expr>,
+    args: &[Arg],
+    found: &mut Option<Refusal>,
+)
     ensures { found.new ≡ noted found.old (fork_rule (task_named 1 tasks.now name.now) place (scope_of sight.now) len.now args.now) }
 {
     for task in tasks {
@@ -157,7 +177,14 @@ fn check_named(sight: &Sight, tasks: &[Task], name: &Name, place: Place, len: &O
 }
 
 /// Notes what a fork breaks, but for its place in a loop.
-pub fn check_fork(sight: &Sight, name: &Name, place: Place, len: &Option<Expr>, args: &[Arg], found: &mut Option<Refusal>)
+pub fn check_fork(
+    sight: &Sight,
+    name: &Name,
+    place: Place,
+    len: &Option<Expr>,
+    args: &[Arg],
+    found: &mut Option<Refusal>,
+)
     ensures { found.new ≡ noted found.old (fork_rule (target_of sight.now.program.now.tasks name.now) place (scope_of sight.now) len.now args.now) }
 {
     if "k_mul" == name.as_str() {

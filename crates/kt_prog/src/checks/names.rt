@@ -89,7 +89,11 @@ fn let_kind(stmts: &[Stmt], name: &Name) -> Option<Kind>
 fn turn_kind(turn: &Name, name: &Name) -> Option<Kind>
     ensures { result ≡ known_of (record { name = turn.now; kind = Number } ∷ []) name.now }
 {
-    if turn.is(name) { Some(Kind::Number) } else { None }
+    if turn.is(name) {
+        Some(Kind::Number)
+    } else {
+        None
+    }
 }
 
 fn known_kind(names: &Names, name: &Name) -> Option<Kind>
@@ -117,7 +121,11 @@ fn family_kind(families: &[Family], name: &Name) -> Option<Kind>
 {
     for family in families {
         if family.name.is(name) {
-            return Some(if family.many { Kind::Many(Mode::Xp) } else { Kind::One(Mode::Xp) });
+            return Some(if family.many {
+                Kind::Many(Mode::Xp)
+            } else {
+                Kind::One(Mode::Xp)
+            });
         }
     }
     None
@@ -130,7 +138,11 @@ pub fn kind_at(sight: &Sight, name: &Name) -> Option<Kind>
     match known_kind(sight.names, name) {
         Some(kind) => Some(kind),
         None => {
-            if sight.in_main { family_kind(sight.program.families.as_slice(), name) } else { None }
+            if sight.in_main {
+                family_kind(sight.program.families.as_slice(), name)
+            } else {
+                None
+            }
         }
     }
 }

@@ -20,7 +20,13 @@ fn is_handed_on(mode: Mode) -> bool
 }
 
 /// Notes what a parameter behind so many ints and objects breaks, but for its name.
-fn check_sort(in_loop: bool, ints: usize, objects: usize, param: &Param, found: &mut Option<Refusal>)
+fn check_sort(
+    in_loop: bool,
+    ints: usize,
+    objects: usize,
+    param: &Param,
+    found: &mut Option<Refusal>,
+)
     ensures { found.new ≡ noted found.old (sort_rule in_loop (record { ints = ints; objects = objects }) param.now param.now.sort) }
 {
     match param.sort {

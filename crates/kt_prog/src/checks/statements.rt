@@ -100,7 +100,10 @@ fn check_what(sight: &Sight, at: Place, what: &What, found: &mut Option<Refusal>
             check_expr(sight, a, found);
             check_expr(sight, b, found);
             let inner = Names::Turn(sight.names, name);
-            let within = Sight { names: &inner, ..*sight };
+            let within = Sight {
+                names: &inner,
+                ..*sight
+            };
             check_block(&within, body.as_slice(), found);
         }
         What::Fork(name, place, len, args) => {
@@ -117,7 +120,10 @@ pub fn check_block(sight: &Sight, stmts: &[Stmt], found: &mut Option<Refusal>)
 {
     for (i, stmt) in stmts.iter().enumerate() {
         let names = Names::Block(sight.names, &stmts[..i]);
-        let behind = Sight { names: &names, ..*sight };
+        let behind = Sight {
+            names: &names,
+            ..*sight
+        };
         check_what(&behind, stmt.place, &stmt.what, found);
     }
 }
