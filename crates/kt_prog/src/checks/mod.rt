@@ -12,6 +12,8 @@ mod least;
 mod names;
 mod params;
 mod statements;
+#[cfg(test)]
+mod tests;
 
 use crate::programs::{Main, Program, Task};
 use declarations::{check_counts, check_families, check_mains, check_names_twice};
