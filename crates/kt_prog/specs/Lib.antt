@@ -28,3 +28,4 @@ pub mod Entries
 pub mod Outcome
 pub mod LastWriter
 pub mod Laws
+pub mod Sights

@@ -2,6 +2,7 @@
 #![tactic(auto)]
 
 mod calls;
+mod checks;
 mod counts;
 pub mod laws;
 mod names;
@@ -13,6 +14,7 @@ mod sight;
 mod tests;
 
 pub use calls::Call;
+pub use checks::check;
 pub use counts::{elements, first_element, inputs, objects, width};
 pub use names::Name;
 pub use programs::{

@@ -1,0 +1,8 @@
+use Rattle.std.proofs.Common.{◌≡◌, drop, map, take}
+use Rattle.kt_prog.specs.StatementRules.{block_rules, rules_of_stmt}
+use Rattle.kt_prog.specs.Refusals.{noted}
+use Rattle.kt_prog.specs.Sights.{behind, scope_of}
+use Rattle.kt_prog.proofs.checks.statements.+statements.Given as goal
+
+abbrev pub invariant-check_block-loop-i : goal.invariant-check_block-loop-i
+invariant-check_block-loop-i l = noted l.fn.found (block_rules (map rules_of_stmt l.stmts) (scope_of l.sight)) ≡ noted l.found (block_rules (map rules_of_stmt (drop l.i l.stmts)) (behind (scope_of l.sight) (take l.i l.stmts)))

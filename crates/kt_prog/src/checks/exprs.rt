@@ -1,0 +1,75 @@
+// The rules of expressions.
+
+ghost use Rattle.std.specs.Prelude.{◌≡◌};
+ghost use Rattle.kt_law.specs.Modes.{may_load, is_owned};
+ghost use Rattle.kt_prog.specs.Rules.{rules_of, number_rule, element_rule, at_index, load_rule};
+ghost use Rattle.kt_prog.specs.Refusals.{noted};
+ghost use Rattle.kt_prog.specs.Sights.{scope_of};
+
+use super::least::{note, note_if};
+use super::names::{Sight, kind_at};
+use crate::programs::Expr;
+use crate::sight::Kind;
+use kt_law::{Mode, P, Place, Refusal};
+
+fn is_loaded(mode: Mode) -> bool
+    ensures { result ≡ may_load mode }
+{
+    matches!(mode, Mode::R | Mode::X)
+}
+
+pub fn is_own(mode: Mode) -> bool
+    ensures { result ≡ is_owned mode }
+{
+    matches!(mode, Mode::W | Mode::X)
+}
+
+/// Whether the expression is the bare name of the index.
+pub fn is_index(sight: &Sight, e: &Expr) -> bool
+    ensures { result ≡ at_index (scope_of sight.now) (rules_of e.now).bare }
+{
+    match e {
+        Expr::Var(name, _) => match kind_at(sight, name) {
+            Some(Kind::Index) => true,
+            _ => false,
+        },
+        _ => false,
+    }
+}
+
+fn note_number(found: &mut Option<Refusal>, kind: Option<Kind>, place: Place)
+    ensures { found.new ≡ noted found.old (number_rule kind place) }
+{
+    match kind {
+        None => note(found, place, P::P6),
+        Some(Kind::One(_)) => note(found, place, P::P8),
+        Some(Kind::Many(_)) => note(found, place, P::P8),
+        Some(_) => {}
+    }
+}
+
+/// Notes what the expression breaks.
+pub fn check_expr(sight: &Sight, e: &Expr, found: &mut Option<Refusal>)
+    ensures { found.new ≡ noted found.old ((rules_of e.now).breaches (scope_of sight.now)) }
+{
+    match e {
+        Expr::Num(_) => {}
+        Expr::Var(name, place) => note_number(found, kind_at(sight, name), *place),
+        Expr::Elem(name, place, at) => {
+            let own = is_index(sight, at.get());
+            match kind_at(sight, name) {
+                None => note(found, *place, P::P6),
+                Some(Kind::One(mode)) => {
+                    note_if(found, *place, P::P10, !is_loaded(mode));
+                    note_if(found, *place, P::P11, sight.in_loop && is_own(mode) && !own);
+                }
+                Some(_) => note(found, *place, P::P8),
+            }
+            check_expr(sight, at.get(), found);
+        }
+        Expr::Bin(_, a, b) => {
+            check_expr(sight, a.get(), found);
+            check_expr(sight, b.get(), found);
+        }
+    }
+}

@@ -1,0 +1,180 @@
+// The names in sight.
+ghost use Rattle.std.specs.Prelude.{◌≡◌, ◌-◌, [], ◌∷◌, length, map};
+ghost use Rattle.kt_law.specs.declared.limits.TheConstants.{LOCALS};
+ghost use Rattle.kt_prog.specs.Scope.{family_known, kind_of, kind_sort, known_of, known_param};
+ghost use Rattle.kt_prog.specs.Rules.{new_name};
+ghost use Rattle.kt_prog.specs.Refusals.{noted};
+ghost use Rattle.kt_prog.specs.Sights.{is_let_of, kind_index, lets_in, names_in, let_names, scope_of};
+ghost use Rattle.kt_prog.specs.declared.programs.What.{out-What};
+ghost use Rattle.kt_prog.specs.declared.sight.Kind.TheVariants.{Number};
+
+use super::least::note_if;
+use crate::names::Name;
+use crate::programs::{Family, Index, Param, Program, Sort, Stmt, Task, What};
+use crate::sight::Kind;
+use kt_law::{LOCALS, Mode, P, Place, Refusal};
+
+/// The names of a body that are in sight. They take no memory: each is read where the text binds it.
+#[derive(Clone, Copy)]
+pub enum Names<'a> {
+    /// None, as where `main` begins.
+    Nothing,
+    /// The index and the parameters of a task or loop.
+    Head(&'a Task),
+    /// With the `let` names of these statements, which begin a block.
+    Block(&'a Names<'a>, &'a [Stmt]),
+    /// With a `for` name.
+    Turn(&'a Names<'a>, &'a Name),
+}
+
+/// What is in sight at a place of a body.
+#[derive(Clone, Copy)]
+pub struct Sight<'a> {
+    pub program: &'a Program,
+    pub in_main: bool,
+    pub in_loop: bool,
+    pub names: &'a Names<'a>,
+}
+
+pub fn index_kind(index: &Option<Index>, name: &Name) -> Option<Kind>
+    ensures { result ≡ kind_index index.now name.now }
+{
+    match index {
+        Some(index) if index.name.is(name) => Some(Kind::Index),
+        _ => None,
+    }
+}
+
+fn sort_kind(sort: Sort) -> Kind
+    ensures { result ≡ kind_sort sort }
+{
+    match sort {
+        Sort::Int => Kind::Number,
+        Sort::One(mode) => Kind::One(mode),
+        Sort::Many(mode) => Kind::Many(mode),
+    }
+}
+
+pub fn param_kind(params: &[Param], name: &Name) -> Option<Kind>
+    ensures { result ≡ known_of (map known_param params.now) name.now }
+{
+    for param in params {
+        if param.name.is(name) {
+            return Some(sort_kind(param.sort));
+        }
+    }
+    None
+}
+
+fn is_let(what: &What, name: &Name) -> bool
+    ensures { result ≡ is_let_of (out-What what.now) name.now }
+{
+    match what {
+        What::Let(other, _, _) => other.is(name),
+        _ => false,
+    }
+}
+
+fn let_kind(stmts: &[Stmt], name: &Name) -> Option<Kind>
+    ensures { result ≡ known_of (let_names stmts.now) name.now }
+{
+    for stmt in stmts {
+        if is_let(&stmt.what, name) {
+            return Some(Kind::Variable);
+        }
+    }
+    None
+}
+
+fn turn_kind(turn: &Name, name: &Name) -> Option<Kind>
+    ensures { result ≡ known_of (record { name = turn.now; kind = Number } ∷ []) name.now }
+{
+    if turn.is(name) {
+        Some(Kind::Number)
+    } else {
+        None
+    }
+}
+
+fn known_kind(names: &Names, name: &Name) -> Option<Kind>
+    ensures { result ≡ known_of (names_in names.now) name.now }
+{
+    match names {
+        Names::Nothing => None,
+        Names::Head(task) => match index_kind(&task.index, name) {
+            Some(kind) => Some(kind),
+            None => param_kind(task.params.as_slice(), name),
+        },
+        Names::Block(outer, stmts) => match known_kind(outer, name) {
+            Some(kind) => Some(kind),
+            None => let_kind(stmts, name),
+        },
+        Names::Turn(outer, other) => match known_kind(outer, name) {
+            Some(kind) => Some(kind),
+            None => turn_kind(other, name),
+        },
+    }
+}
+
+fn family_kind(families: &[Family], name: &Name) -> Option<Kind>
+    ensures { result ≡ family_known families.now name.now }
+{
+    for family in families {
+        if family.name.is(name) {
+            return Some(if family.many {
+                Kind::Many(Mode::Xp)
+            } else {
+                Kind::One(Mode::Xp)
+            });
+        }
+    }
+    None
+}
+
+/// What the name is, if it is in sight.
+pub fn kind_at(sight: &Sight, name: &Name) -> Option<Kind>
+    ensures { result ≡ kind_of (scope_of sight.now) name.now }
+{
+    match known_kind(sight.names, name) {
+        Some(kind) => Some(kind),
+        None => {
+            if sight.in_main {
+                family_kind(sight.program.families.as_slice(), name)
+            } else {
+                None
+            }
+        }
+    }
+}
+
+fn room_behind(room: u32, stmts: &[Stmt]) -> u32
+    ensures { result ≡ room - length (let_names stmts.now) }
+{
+    let mut left = room;
+    for stmt in stmts {
+        if let What::Let(_, _, _) = &stmt.what {
+            left = left.saturating_sub(1);
+        }
+    }
+    left
+}
+
+/// How many more `let` and `for` names may be visible.
+fn room(names: &Names) -> u32
+    ensures { result ≡ LOCALS - lets_in names.now }
+{
+    match names {
+        Names::Nothing => LOCALS,
+        Names::Head(_) => LOCALS,
+        Names::Block(outer, stmts) => room_behind(room(outer), stmts),
+        Names::Turn(outer, _) => room(outer).saturating_sub(1),
+    }
+}
+
+/// Notes what a `let` or `for` name breaks.
+pub fn check_new_name(sight: &Sight, name: &Name, place: Place, found: &mut Option<Refusal>)
+    ensures { found.new ≡ noted found.old (new_name (scope_of sight.now) name.now place) }
+{
+    note_if(found, place, P::P5, kind_at(sight, name).is_some());
+    note_if(found, place, P::P12, room(sight.names) == 0);
+}
