@@ -1,18 +1,18 @@
 -- How the parts of a call come together.
-use Rattle.std.proofs.Common.{◌≡◌, ◌<◌, ◌≤◌, ℕ, List, [], ◌∷◌, length, sym, subst, refl, true, false, Bool, arith}
-use Rattle.std.specs.Prelude.{Some, None, codes}
+use Rattle.std.proofs.Common.{◌≡◌, ◌<◌, ℕ, List, [], length, subst, refl, true, false, Bool, arith}
+use Rattle.std.specs.Prelude.{Some, None}
 use Rattle.std.specs.declared.option.Option.{Option}
 use Rattle.std.specs.Io.KnownBytes.{Keeps}
-use Rattle.kt_io.specs.Streams.{Tells, HasMoreThan}
-use Rattle.kt_io.specs.Over.{Over, IsFaulty, IsUnwritten}
+use Rattle.kt_io.specs.Streams.{Tells}
+use Rattle.kt_io.specs.Over.{Over}
 use Rattle.kt_io.specs.Ending.{ForJob, Said, Sends}
 use Rattle.kaapi.specs.declared.exits.Exit.{Exit}
 use Rattle.kaapi.specs.declared.thin.TheConstants.{THIN_BYTES}
 use Rattle.kt_prog.specs.declared.programs.Program.{Program}
 use Rattle.kt_read.specs.Rows.{rows_text}
 use Rattle.kaapi.specs.Thin.{RunsThin}
-use Rattle.kaapi.specs.Answers.{Answer, done, not_built, said, faults}
-use Rattle.kaapi.specs.Top.{AnswersJob, Answers, EndsWithAnswer, SendsOrLacks, RepliesTo, is_seq}
+use Rattle.kaapi.specs.Answers.{done, not_built, said, faults}
+use Rattle.kaapi.specs.Top.{AnswersJob, EndsWithAnswer, SendsOrLacks, RepliesTo, is_seq}
 use Rattle.kaapi.specs.Top.AnswersJob.{with_rows, as_not_built}
 use Rattle.kaapi.specs.Top.Answers.{to_seq, to_others}
 use Rattle.kaapi.specs.Top.EndsWithAnswer.{answered, fails_to_read, lacks_memory}

@@ -6,11 +6,11 @@ use Rattle.kt_prog.specs.declared.programs.Program.{Program}
 use Rattle.kt_read.specs.Rows.{rows_text}
 use Rattle.kt_read.specs.ThinJobs.{IsThinJob, IsOnlyThinJob}
 use Rattle.kt_read.specs.Laws.{OneText, ThinJobIsText}
-use Rattle.kaapi.specs.Answers.{Answer, done, not_built}
+use Rattle.kaapi.specs.Answers.{Answer, done}
 use Rattle.kaapi.specs.Laws.{OneAnswer}
-use Rattle.kaapi.specs.Thin.{RunsThin, opened_with}
+use Rattle.kaapi.specs.Thin.{opened_with}
 use Rattle.kaapi.specs.ThinRun.{run_of}
-use Rattle.kaapi.specs.Top.{AnswersJob, Answers, is_seq}
+use Rattle.kaapi.specs.Top.{AnswersJob, is_seq}
 use Rattle.kaapi.specs.Top.AnswersJob.{with_rows, as_not_built}
 use Rattle.kaapi.specs.Top.Answers.{to_seq, to_others}
 use Rattle.kaapi.proofs.Runs.{RunsRead, runs_read}

@@ -1,5 +1,5 @@
 -- The store before a run, as far as it was made.
-use Rattle.std.proofs.Common.{◌≡◌, ℕ, ◌+◌, ◌-◌, ◌*◌, ◌<◌, ◌≤◌, ◌^◌, List, [], ◌∷◌, ◌++◌, length, drop}
+use Rattle.std.proofs.Common.{◌≡◌, ℕ, ◌+◌, List, ◌++◌, length}
 use Rattle.kt_prog.specs.Objects.{elements_of, inputs_of}
 use Rattle.kt_prog.specs.declared.programs.Family.{Family}
 use Rattle.kaapi.specs.Thin.{opened_with}

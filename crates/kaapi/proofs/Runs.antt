@@ -3,7 +3,7 @@ use Rattle.std.proofs.Common.{◌≡◌, ℕ, List, true, false, subst, Some, No
 use Rattle.kt_text.specs.Data.{numbers}
 use Rattle.kt_prog.specs.Objects.{inputs_of}
 use Rattle.kt_prog.specs.declared.programs.Program.{Program}
-use Rattle.kt_read.specs.ThinJobs.{IsThinJob, IsOnlyThinJob}
+use Rattle.kt_read.specs.ThinJobs.{IsOnlyThinJob}
 use Rattle.kaapi.specs.Thin.{IsRefused, RunsThin, is_fit, opened_with}
 use Rattle.kaapi.specs.ThinRun.{run_of}
 

@@ -1,5 +1,5 @@
 -- What a thin program's sizes are.
-use Rattle.std.proofs.Common.{◌≡◌, ℕ, ◌+◌, ◌*◌, ◌<◌, ◌≤◌, ◌^◌, Bool, true, false, ◌&&◌, List, [], ◌∷◌, length, arith, ap, refl}
+use Rattle.std.proofs.Common.{◌≡◌, ℕ, ◌*◌, ◌<◌, ◌≤◌, ◌^◌, Bool, true, false, ◌&&◌, List, [], ◌∷◌, length, arith, ap, refl}
 use Rattle.std.specs.Prelude.{nat_le}
 use Rattle.std.specs.List.{All, list_all}
 use Rattle.std.proofs.lemmas.Bool.{leb-true}
@@ -13,7 +13,7 @@ use Rattle.kt_read.specs.ThinGrammar.Many.{no_more, one_more}
 use Rattle.kt_read.specs.ThinGrammar.ReadsObject.{object}
 use Rattle.kt_read.specs.ThinGrammar.ReadsThin.{thin}
 use Rattle.kt_read.specs.ThinJobs.{IsThinJob}
-use Rattle.kaapi.specs.Thin.{is_fit, sizes_fit, width_fits, forks_fit}
+use Rattle.kaapi.specs.Thin.{is_fit, sizes_fit, width_fits}
 use Rattle.kaapi.specs.ThinNames.{names_fit}
 use Rattle.kaapi.specs.declared.thin.TheConstants.{THIN_PARTS, THIN_WIDTH}
 

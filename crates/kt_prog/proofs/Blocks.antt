@@ -1,9 +1,9 @@
 -- Blocks: what is in sight behind the first of their statements.
-use Rattle.std.proofs.Common.{◌≡◌, ℕ, zero, suc, ◌+◌, ◌<◌, ◌≤◌, List, [], ◌∷◌, ◌++◌, length, map, drop, take, get_or, Option, Some, None, refl, ap, sym, ◌∙◌, arith, drop-cons, add-one}
+use Rattle.std.proofs.Common.{◌≡◌, ℕ, ◌+◌, ◌<◌, ◌≤◌, List, [], ◌∷◌, ◌++◌, length, map, drop, take, get_or, Option, refl, ap, sym, ◌∙◌, arith, drop-cons, add-one}
 use Rattle.std.proofs.lemmas.List.{take_more}
 use Rattle.std.proofs.lemmas.Grind.{common_steps}
 use Rattle.kt_law.specs.declared.places.Place.{Place}
-use Rattle.kt_prog.specs.Scope.{Scope, with_name}
+use Rattle.kt_prog.specs.Scope.{Scope}
 use Rattle.kt_prog.specs.StatementRules.{Ruled, StmtRules, block_rules, rules_of_stmt, rules_of_what, stmt_rules, what_rules}
 use Rattle.kt_prog.specs.Sights.{behind, let_name, let_names}
 use Rattle.kt_prog.specs.declared.programs.Stmt.{Stmt}

@@ -1,5 +1,5 @@
 -- The rules at what a `match` finds, and at the items of a list one after another.
-use Rattle.std.proofs.Common.{◌≡◌, ℕ, ◌+◌, ◌<◌, ◌≤◌, List, [], ◌∷◌, ◌++◌, length, map, drop, take, get_or, Option, Some, None, refl, ap, sym, ◌∙◌}
+use Rattle.std.proofs.Common.{◌≡◌, ℕ, List, ◌++◌, map, Option, refl, ap, sym, ◌∙◌}
 use Rattle.kt_law.specs.declared.operators.BinOp.{BinOp}
 use Rattle.kt_law.specs.declared.operators.Op.{Op}
 use Rattle.kt_law.specs.declared.places.P.TheVariants.{P11}
@@ -7,10 +7,10 @@ use Rattle.kt_law.specs.declared.places.Place.{Place}
 use Rattle.kt_prog.specs.Scope.{Scope, kind_of, with_name}
 use Rattle.kt_prog.specs.Targets.{target_of}
 use Rattle.kt_prog.specs.Rules.{Breaches, ExprRules, breaches_in, denied, element_rule, expr_rules, fold_rule, new_name, rules_of, set_rule, store_rule, unknown_in}
-use Rattle.kt_prog.specs.ForkRules.{argument_rule, fork_rule, span_rule}
-use Rattle.kt_prog.specs.StatementRules.{Ruled, StmtRules, block_rules, rules_of_stmt, rules_of_what, stmt_rules, what_rules}
+use Rattle.kt_prog.specs.ForkRules.{argument_rule, fork_rule}
+use Rattle.kt_prog.specs.StatementRules.{StmtRules, block_rules, rules_of_stmt, rules_of_what, stmt_rules, what_rules}
 use Rattle.kt_prog.specs.Sights.{wants_span}
-use Rattle.kt_prog.specs.declared.sight.Kind.TheVariants.{Number, Variable}
+use Rattle.kt_prog.specs.declared.sight.Kind.TheVariants.{Number}
 use Rattle.kt_prog.specs.declared.programs.Expr.{Expr, Bin, fold-roll-Expr}
 use Rattle.kt_prog.specs.declared.programs.Expr.TheVariants.{rolls-Bin}
 use Rattle.kt_prog.specs.declared.programs.Expr.TheOpen as E
@@ -19,7 +19,7 @@ use Rattle.kt_prog.specs.declared.programs.ArgWhat.TheVariants as A
 use Rattle.kt_prog.specs.declared.programs.Sort.{Sort}
 use Rattle.kt_prog.specs.declared.programs.Sort.TheVariants as S
 use Rattle.kt_prog.specs.declared.programs.Stmt.{Stmt, fold_out-Stmt}
-use Rattle.kt_prog.specs.declared.programs.What.{What, fold-roll-What}
+use Rattle.kt_prog.specs.declared.programs.What.{fold-roll-What}
 use Rattle.kt_prog.specs.declared.programs.What.TheVariants as W
 use Rattle.kt_prog.specs.declared.programs.What.TheOpen as F
 

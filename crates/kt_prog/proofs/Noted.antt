@@ -1,5 +1,5 @@
 -- Breaches noted one list after another.
-use Rattle.std.proofs.Common.{◌≡◌, List, [], ◌∷◌, ◌++◌, Option, Some, None, refl, if◌then◌else◌}
+use Rattle.std.proofs.Common.{◌≡◌, [], ◌∷◌, ◌++◌, Option, Some, None, refl, if◌then◌else◌}
 use Rattle.kt_law.specs.declared.places.Refusal.{Refusal}
 use Rattle.kt_prog.specs.Rules.{Breaches}
 use Rattle.kt_prog.specs.Refusals.{goes_before, least_with, noted}

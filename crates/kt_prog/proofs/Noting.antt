@@ -1,22 +1,20 @@
 -- Lists of rules noted item after item.
-use Rattle.std.proofs.Common.{◌≡◌, ℕ, suc, ◌+◌, ◌<◌, ◌≤◌, List, [], ◌∷◌, ◌++◌, Bool, true, false, ◌&&◌, ◌||◌, length, map, drop, get_or, Option, Some, refl, ap, sym, ◌∙◌, arith, drop-cons, add-one, if◌then◌else◌}
+use Rattle.std.proofs.Common.{◌≡◌, ℕ, suc, ◌+◌, ◌<◌, ◌≤◌, List, [], ◌∷◌, ◌++◌, Bool, true, false, ◌&&◌, ◌||◌, length, map, drop, get_or, Option, Some, refl, ap, sym, ◌∙◌, arith, drop-cons, add-one}
 use Rattle.std.proofs.lemmas.Grind.{common_steps}
 use Rattle.kt_law.specs.declared.places.Place.{Place}
-use Rattle.kt_law.specs.declared.limits.TheConstants.{DEFINITIONS}
-use Rattle.kt_law.specs.declared.places.P.TheVariants.{P5, P6, P12}
+use Rattle.kt_law.specs.declared.places.P.TheVariants.{P5, P6}
 use Rattle.kt_law.specs.declared.places.Refusal.{Refusal}
-use Rattle.std.specs.Prelude.{is_some, nat_eq}
+use Rattle.std.specs.Prelude.{is_some}
 use Rattle.std.specs.Str.{bytes_eq}
 use Rattle.kt_prog.specs.Targets.{kernel_named}
-use Rattle.kt_prog.specs.Scope.{Scope, known_index, known_of, known_param}
+use Rattle.kt_prog.specs.Scope.{Scope, known_index}
 use Rattle.kt_prog.specs.Rules.{Breaches, broken_at, denied}
 use Rattle.kt_prog.specs.Targets.{is_loop_of, target, task_named}
 use Rattle.kt_prog.specs.ForkRules.{argument_rule, argument_rules, fork_rule, length_rule, unknown_in_all, unknown_in_argument}
-use Rattle.kt_prog.specs.Declarations.{Counts, declared_in, Declared, count_rules, counted, family_rules, is_earlier, names_twice, no_params, other_mains, param_rules, sort_rule, place_before, too_large}
+use Rattle.kt_prog.specs.Declarations.{declared_in, Declared, is_earlier, names_twice, no_params, other_mains, param_rules, place_before}
 use Rattle.kt_prog.specs.Accepted.{body_rules, main_scope, mains_rules, task_rules, task_scope}
 use Rattle.kt_prog.specs.Refusals.{noted}
 use Rattle.kt_prog.specs.Sights.{declared_family, declared_task, sort_of}
-use Rattle.kt_prog.specs.declared.sight.Known.{Known}
 use Rattle.kt_prog.specs.declared.programs.Arg.{Arg}
 use Rattle.kt_prog.specs.declared.programs.Expr.{Expr}
 use Rattle.kt_prog.specs.declared.programs.Family.{Family}

@@ -1,4 +1,4 @@
-use Rattle.std.proofs.Common.{◌≡◌, true, false, sym, ◌∙◌, arith, rules}
+use Rattle.std.proofs.Common.{◌≡◌, false, sym, ◌∙◌}
 use Rattle.kaapi.specs.Thin.{is_fit}
 use Rattle.kaapi.proofs.Runs.{runs_read, no_fit, no_data, no_rows}
 use Rattle.kaapi.proofs.Sizes.{read_few, read_single}

@@ -1,4 +1,4 @@
-use Rattle.std.proofs.Common.{◌≡◌, ◌<◌, length, arith}
+use Rattle.std.proofs.Common.{◌<◌, arith}
 use Rattle.kt_prog.specs.Objects.{objects_of}
 use Rattle.kaapi.proofs.Elements.{objects-single, row_within}
 use Rattle.kaapi.proofs.thin_run.row_at.Goals as goal

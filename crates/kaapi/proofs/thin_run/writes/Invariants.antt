@@ -1,4 +1,4 @@
-use Rattle.std.proofs.Common.{◌≡◌, ◌+◌, ◌≤◌, length, drop}
+use Rattle.std.proofs.Common.{◌≡◌, drop}
 use Rattle.kaapi.specs.ThinRun.{writes_done}
 use Rattle.kaapi.proofs.thin_run.writes.Given as goal
 

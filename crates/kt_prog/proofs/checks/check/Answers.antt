@@ -1,4 +1,4 @@
-use Rattle.std.proofs.Common.{◌≡◌, ◌<◌, length, refl, ap, sym, ◌∙◌}
+use Rattle.std.proofs.Common.{refl, sym, ◌∙◌}
 use Rattle.kt_prog.proofs.Noted.{none_noted}
 use Rattle.kt_prog.proofs.checks.check.Goals as goal
 

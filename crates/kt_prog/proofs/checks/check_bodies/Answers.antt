@@ -1,4 +1,4 @@
-use Rattle.std.proofs.Common.{◌≡◌, ◌<◌, ◌≤◌, ◌+◌, arith, length, refl, ap, sym, ◌∙◌}
+use Rattle.std.proofs.Common.{◌∙◌}
 use Rattle.kt_prog.proofs.Noting.{main_step}
 use Rattle.kt_prog.proofs.Sighting.{main_scope_is}
 use Rattle.kt_prog.proofs.checks.check_bodies.Goals as goal

@@ -1,4 +1,4 @@
-use Rattle.std.proofs.Common.{◌≡◌, ◌<◌, ◌≤◌, ◌+◌, arith, length, refl, ap, sym, ◌∙◌}
+use Rattle.std.proofs.Common.{◌∙◌}
 use Rattle.kt_prog.proofs.Noting.{task_step}
 use Rattle.kt_prog.proofs.Sighting.{head_scope}
 use Rattle.kt_prog.proofs.checks.check_tasks.Goals as goal

@@ -1,4 +1,4 @@
-use Rattle.std.proofs.Common.{◌≡◌, refl, ◌∙◌}
+use Rattle.std.proofs.Common.{refl}
 use Rattle.kt_prog.proofs.Noted.{noted_append}
 use Rattle.kt_prog.specs.Accepted.{broken}
 use Rattle.kt_prog.proofs.checks.first_breach.Goals as goal

@@ -1,4 +1,4 @@
-use Rattle.std.proofs.Common.{◌≡◌, refl}
+use Rattle.std.proofs.Common.{refl}
 use Rattle.kt_prog.specs.declared.programs.Expr.TheViews.{outs-Bin}
 use Rattle.kt_prog.proofs.Noted.{noted_append}
 use Rattle.kt_prog.proofs.checks.arguments.check_many.Goals as goal

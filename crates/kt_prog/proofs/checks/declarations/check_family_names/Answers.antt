@@ -1,4 +1,4 @@
-use Rattle.std.proofs.Common.{◌≡◌, refl, ◌∙◌}
+use Rattle.std.proofs.Common.{refl, ◌∙◌}
 use Rattle.kt_prog.proofs.Noting.{families_named}
 use Rattle.kt_prog.proofs.checks.declarations.check_family_names.Goals as goal
 

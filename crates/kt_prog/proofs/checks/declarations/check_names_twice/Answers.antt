@@ -1,4 +1,4 @@
-use Rattle.std.proofs.Common.{◌≡◌, refl, ◌∙◌}
+use Rattle.std.proofs.Common.{refl}
 use Rattle.kt_prog.proofs.Noted.{noted_append}
 use Rattle.kt_prog.proofs.Noting.{append_twice}
 use Rattle.kt_prog.proofs.checks.declarations.check_names_twice.Goals as goal

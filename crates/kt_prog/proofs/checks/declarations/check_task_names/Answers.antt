@@ -1,4 +1,4 @@
-use Rattle.std.proofs.Common.{◌≡◌, refl, ◌∙◌}
+use Rattle.std.proofs.Common.{refl, ◌∙◌}
 use Rattle.kt_prog.proofs.Noting.{tasks_named}
 use Rattle.kt_prog.proofs.checks.declarations.check_task_names.Goals as goal
 

@@ -1,4 +1,4 @@
-use Rattle.std.proofs.Common.{◌≡◌, refl, ◌∙◌}
+use Rattle.std.proofs.Common.{refl, ◌∙◌}
 use Rattle.kt_prog.proofs.Noting.{others_next}
 use Rattle.kt_prog.proofs.checks.declarations.note_mains.Goals as goal
 

@@ -1,4 +1,4 @@
-use Rattle.std.proofs.Common.{◌≡◌, refl}
+use Rattle.std.proofs.Common.{refl}
 use Rattle.kt_prog.proofs.Equations.{rules_bin}
 use Rattle.kt_prog.proofs.Noted.{noted_append}
 use Rattle.kt_prog.proofs.checks.exprs.+check_expr.Goals as goal

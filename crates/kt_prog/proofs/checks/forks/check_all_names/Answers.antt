@@ -1,4 +1,4 @@
-use Rattle.std.proofs.Common.{◌≡◌, refl, ◌∙◌}
+use Rattle.std.proofs.Common.{refl, ◌∙◌}
 use Rattle.kt_prog.proofs.Noting.{unknown_next}
 use Rattle.kt_prog.proofs.checks.forks.check_all_names.Goals as goal
 

@@ -1,4 +1,4 @@
-use Rattle.std.proofs.Common.{◌≡◌, ◌<◌, length, refl, ap, sym, ◌∙◌}
+use Rattle.std.proofs.Common.{◌<◌, length, refl, ◌∙◌}
 use Rattle.kt_prog.proofs.Noting.{given_next}
 use Rattle.kt_prog.proofs.checks.forks.check_given.Goals as goal
 

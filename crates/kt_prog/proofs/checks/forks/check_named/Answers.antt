@@ -1,4 +1,4 @@
-use Rattle.std.proofs.Common.{◌≡◌, ◌<◌, length, refl, ap, sym, ◌∙◌}
+use Rattle.std.proofs.Common.{ap, sym, ◌∙◌}
 use Rattle.kt_prog.specs.Refusals.{noted}
 use Rattle.kt_prog.proofs.Noting.{named_here, named_nowhere}
 use Rattle.kt_prog.proofs.checks.forks.check_named.Goals as goal

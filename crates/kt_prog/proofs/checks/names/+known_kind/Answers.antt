@@ -1,4 +1,4 @@
-use Rattle.std.proofs.Common.{◌≡◌, ◌<◌, length, refl, ap, sym, ◌∙◌}
+use Rattle.std.proofs.Common.{refl}
 use Rattle.kt_prog.proofs.Sighting.{known_append, names_block, names_turn}
 use Rattle.kt_prog.proofs.checks.names.+known_kind.Goals as goal
 

@@ -1,4 +1,4 @@
-use Rattle.std.proofs.Common.{◌≡◌, ◌<◌, ◌≤◌, ◌+◌, arith, length, refl, ap, sym, ◌∙◌}
+use Rattle.std.proofs.Common.{arith, ◌∙◌}
 use Rattle.kt_prog.proofs.Sighting.{param_step}
 use Rattle.kt_prog.proofs.checks.params.check_params.Goals as goal
 

@@ -1,5 +1,5 @@
-use Rattle.std.proofs.Common.{◌≡◌, [], ap, sym, map, refl, ◌∙◌}
-use Rattle.kt_prog.specs.StatementRules.{block_rules, rules_of_stmt, rules_of_what}
+use Rattle.std.proofs.Common.{[], ap, sym, map, refl, ◌∙◌}
+use Rattle.kt_prog.specs.StatementRules.{rules_of_stmt}
 use Rattle.kt_prog.specs.Refusals.{noted}
 use Rattle.kt_prog.specs.Rules.{breaches_in, new_name}
 use Rattle.kt_prog.specs.Scope.{with_name}
