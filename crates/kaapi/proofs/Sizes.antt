@@ -13,8 +13,7 @@ use Rattle.kt_read.specs.ThinGrammar.Many.{no_more, one_more}
 use Rattle.kt_read.specs.ThinGrammar.ReadsObject.{object}
 use Rattle.kt_read.specs.ThinGrammar.ReadsThin.{thin}
 use Rattle.kt_read.specs.ThinJobs.{IsThinJob}
-use Rattle.kaapi.specs.Thin.{is_fit, sizes_fit, width_fits}
-use Rattle.kaapi.specs.ThinNames.{names_fit}
+use Rattle.kaapi.specs.Thin.{sizes_fit, width_fits}
 use Rattle.kaapi.specs.declared.thin.TheConstants.{THIN_PARTS, THIN_WIDTH}
 
 differs : false ≡ true → ⊥
@@ -65,5 +64,5 @@ all_single p ts us (thin objects tasks forks) = each_single _ _ _ objects
 pub read_single : (job : List ℕ) (p : Program) (from : ℕ) → IsThinJob job p from → All IsSingle p.families
 read_single job p from reads = all_single p _ _ reads.derived
 
-pub read_few : (job : List ℕ) (p : Program) (from : ℕ) → IsThinJob job p from → is_fit p ≡ true → elements_of p.families < 2 ^ 32
-read_few job p from reads fit = thin_few p (both (sizes_fit p) (names_fit p) fit).0 (read_single job p from reads)
+pub read_few : (job : List ℕ) (p : Program) (from : ℕ) → IsThinJob job p from → sizes_fit p ≡ true → elements_of p.families < 2 ^ 32
+read_few job p from reads fit = thin_few p fit (read_single job p from reads)

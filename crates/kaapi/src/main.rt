@@ -7,7 +7,6 @@ mod replies;
 #[cfg(test)]
 mod tests;
 mod thin;
-mod thin_names;
 mod thin_run;
 mod top;
 

@@ -1,16 +1,16 @@
 // Thin jobs: from the bytes to the rows.
-ghost use Rattle.std.specs.Prelude.{◌≡◌, ◌<◌, ◌≤◌, ◌^◌, ℕ, List, length, IfOk, IfSome, IfNone, Ok};
+ghost use Rattle.std.specs.Prelude.{◌≡◌, ◌<◌, ◌≤◌, ◌^◌, ℕ, List, length, IfOk, IfSome, IfNone, Ok, IsTrue, ◌↔◌};
 ghost use Rattle.kt_text.specs.Data.{numbers};
 ghost use Rattle.std.specs.List.{list_all};
-ghost use Rattle.kaapi.specs.Thin.{IsRefused, RunsThin, forks_fit, is_fit, opened_with, sizes_fit, width_fits};
+ghost use Rattle.kaapi.specs.Thin.{IsRefused, RunsThin, forks_fit, opened_with, sizes_fit, width_fits};
 ghost use Rattle.kaapi.specs.ThinRun.{run_of};
+ghost use Rattle.kt_prog.specs.Accepted.{IsAccepted};
 ghost use Rattle.kt_prog.specs.Objects.{elements_of, inputs_of};
 ghost use Rattle.kt_prog.specs.declared.programs.Program.{Program};
 
-use crate::thin_names::names_are_fit;
 use crate::thin_run::run;
 use kt_law::NoMemory;
-use kt_prog::{Family, Main, Program, inputs};
+use kt_prog::{Family, Main, Program, check, inputs};
 use kt_read::{Thin, read_thin};
 use kt_text::{DataError, read_data};
 use std::alloc::Global;
@@ -44,7 +44,10 @@ pub fn run_thin(alloc: Global, job: &[u8]) -> Result<Option<Finished>, NoMemory>
         Err(Thin::NotBuilt) => return Ok(None),
         Err(Thin::NoMemory) => return Err(NoMemory),
     };
-    if !fits(&program) {
+    if !sizes_are_fit(&program) {
+        return Ok(None);
+    }
+    if !is_accepted(&program) {
         return Ok(None);
     }
     let input = match input_of(alloc, job, from, inputs(&program))? {
@@ -81,10 +84,10 @@ fn input_of(
     }
 }
 
-fn fits(program: &Program) -> bool
-    ensures { result ≡ is_fit program.now }
+fn is_accepted(program: &Program) -> bool
+    ensures { IsTrue result ↔ IsAccepted program.now }
 {
-    sizes_are_fit(program) && names_are_fit(program)
+    check(program).is_ok()
 }
 
 fn sizes_are_fit(program: &Program) -> bool
