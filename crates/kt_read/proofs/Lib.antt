@@ -12,3 +12,4 @@ pub mod OneProgram
 pub mod MoreTokens
 pub mod OneText
 pub mod ThinIsWhole
+pub mod PrintedTexts
