@@ -1,6 +1,6 @@
 // The text of declarations.
 ghost use Rattle.std.specs.Prelude.{◌≡◌, ◌++◌, OnOk, codes, map, string_bytes};
-ghost use Rattle.kt_prog.specs.declared.programs.Param.{Param};
+ghost use Rattle.std.specs.List.{flat_map};
 ghost use Rattle.kt_read.specs.CanonicalText.{body_text, family_text, main_text, members_text, mode_text, param_text, params_text, size_text, sort_text, task_head, task_text, where_set};
 ghost use Rattle.kt_read.specs.CanonicalWords.{listed};
 
@@ -10,7 +10,16 @@ use kt_law::Mode;
 use kt_prog::{Family, Index, Main, Name, Param, Sort, Stmt, Task};
 use std::alloc::AllocError;
 
-pub fn push_family(text: &mut String, family: &Family) -> Result<(), AllocError>
+pub fn push_families(text: &mut String, families: &[Family]) -> Result<(), AllocError>
+    ensures { OnOk result (string_bytes text.new ≡ string_bytes text.old ++ flat_map family_text families.now) }
+{
+    for family in families {
+        push_family(text, family)?;
+    }
+    Ok(())
+}
+
+fn push_family(text: &mut String, family: &Family) -> Result<(), AllocError>
     ensures { OnOk result (string_bytes text.new ≡ string_bytes text.old ++ family_text family.now) }
 {
     let name = family.name.as_str();
@@ -123,7 +132,16 @@ fn push_head(
     }
 }
 
-pub fn push_task(text: &mut String, task: &Task) -> Result<(), AllocError>
+pub fn push_tasks(text: &mut String, tasks: &[Task]) -> Result<(), AllocError>
+    ensures { OnOk result (string_bytes text.new ≡ string_bytes text.old ++ flat_map task_text tasks.now) }
+{
+    for task in tasks {
+        push_task(text, task)?;
+    }
+    Ok(())
+}
+
+fn push_task(text: &mut String, task: &Task) -> Result<(), AllocError>
     ensures { OnOk result (string_bytes text.new ≡ string_bytes text.old ++ task_text task.now) }
 {
     push_head(text, &task.index, &task.name, task.params.as_slice())?;
@@ -132,7 +150,16 @@ pub fn push_task(text: &mut String, task: &Task) -> Result<(), AllocError>
     push_end(text, 0)
 }
 
-pub fn push_main(text: &mut String, main: &Main) -> Result<(), AllocError>
+pub fn push_mains(text: &mut String, mains: &[Main]) -> Result<(), AllocError>
+    ensures { OnOk result (string_bytes text.new ≡ string_bytes text.old ++ flat_map main_text mains.now) }
+{
+    for main in mains {
+        push_main(text, main)?;
+    }
+    Ok(())
+}
+
+fn push_main(text: &mut String, main: &Main) -> Result<(), AllocError>
     ensures { OnOk result (string_bytes text.new ≡ string_bytes text.old ++ main_text main.now) }
 {
     text.push_str("main {\n")?;
