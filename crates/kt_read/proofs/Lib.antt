@@ -12,4 +12,4 @@ pub mod OneProgram
 pub mod MoreTokens
 pub mod OneText
 pub mod ThinIsWhole
-pub mod JobsRead
+pub mod PrintedTexts

@@ -4,6 +4,7 @@
 mod cursors;
 mod descent;
 pub mod laws;
+mod printing;
 mod rows;
 #[cfg(test)]
 mod tests;
@@ -12,6 +13,7 @@ mod tokens;
 mod words;
 
 pub use cursors::Thin;
+pub use printing::print_program;
 pub use rows::rows_bytes;
 pub use thin_jobs::read_thin;
 pub use tokens::{Mark, Symbol, Tok};
