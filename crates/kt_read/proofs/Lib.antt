@@ -12,4 +12,5 @@ pub mod OneProgram
 pub mod MoreTokens
 pub mod OneText
 pub mod ThinIsWhole
+pub mod JobsRead
 pub mod PrintedTexts

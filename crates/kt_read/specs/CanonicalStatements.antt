@@ -1,7 +1,6 @@
 -- The canonical text of statements. The number is that of the blanks before their first line.
-use Rattle.std.specs.Prelude.{ℕ, ◌+◌, List, [], ◌∷◌, ◌++◌, Option, Some, None, map, codes, replicate}
+use Rattle.std.specs.Prelude.{ℕ, ◌+◌, List, [], ◌∷◌, ◌++◌, Option, Some, None, map, codes}
 use Rattle.std.specs.List.{flat_map}
-use Rattle.kt_law.specs.declared.operators.Op.{Op}
 use Rattle.kt_prog.specs.declared.programs.Arg.{Arg}
 use Rattle.kt_prog.specs.declared.programs.ArgWhat.{ArgWhat}
 use Rattle.kt_prog.specs.declared.programs.ArgWhat.TheVariants.{Value, Span}

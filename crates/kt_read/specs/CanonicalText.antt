@@ -1,6 +1,6 @@
 -- The canonical text of a program: all families, then all tasks and loops, then `main`, each in the order of the text, and
 -- the word `data`.
-use Rattle.std.specs.Prelude.{ℕ, List, [], ◌∷◌, ◌++◌, Bool, Option, Some, None, map, codes, if◌then◌else◌}
+use Rattle.std.specs.Prelude.{ℕ, List, [], ◌++◌, Bool, Option, Some, None, map, codes, if◌then◌else◌}
 use Rattle.std.specs.Fmt.{decimal}
 use Rattle.std.specs.List.{flat_map}
 use Rattle.kt_law.specs.declared.modes.Mode.{Mode}
