@@ -31,7 +31,7 @@ member_below k e members elements lt le =
     omega (arith, more, suc-mul k elements)
 
 -- an element's number is below the number of all elements
-place_below : (families : List Family) (object element : ℕ) → element < width_of families object
+pub place_below : (families : List Family) (object element : ℕ) → element < width_of families object
     → first_element_of families object + element < elements_of families
 place_below [] object element lt = omega arith
 place_below (f ∷ families) object element lt =
@@ -47,7 +47,7 @@ place_below (f ∷ families) object element lt =
     family_below false is h more = omega (arith, more h)
 
 -- as many numbers as there are elements
-opened_length : (families : List Family) (input : List ℕ) → length input ≡ inputs_of families
+pub opened_length : (families : List Family) (input : List ℕ) → length input ≡ inputs_of families
     → length (opened_with families input) ≡ elements_of families
 opened_length [] input h = refl
 opened_length (f ∷ families) input h = family_opened f.input (f.members * f.elements) families input h (λ more e. opened_length families more e)

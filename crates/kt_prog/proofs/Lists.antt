@@ -1,5 +1,5 @@
 -- Lists of breaches that are empty, and accesses among others.
-use Rattle.std.proofs.Common.{◌≡◌, Bool, true, false, not, ◌&&◌, ◌||◌, List, [], ◌∷◌, ◌++◌, inl, inr, refl}
+use Rattle.std.proofs.Common.{◌≡◌, Bool, true, false, not, ◌&&◌, ◌||◌, List, [], ◌∷◌, ◌++◌, inl, inr, refl, ap}
 use Rattle.kt_law.specs.declared.places.P.{P}
 use Rattle.kt_law.specs.declared.places.Place.{Place}
 use Rattle.kt_law.specs.declared.accesses.Access.{Access}
@@ -14,6 +14,10 @@ left_none (x ∷ xs) ys h = cc
 pub right_none : {A : Type 0} (xs ys : List A) → xs ++ ys ≡ [] → ys ≡ []
 right_none [] ys h = h
 right_none (x ∷ xs) ys h = cc
+
+pub append_more : {A : Type 0} (xs ys zs : List A) → xs ++ (ys ++ zs) ≡ xs ++ ys ++ zs
+append_more [] ys zs = refl
+append_more (x ∷ xs) ys zs = ap (λ l. x ∷ l) (append_more xs ys zs)
 
 pub not_denied : (place : Place) (code : P) (b : Bool) → denied place code b ≡ [] → b ≡ false
 not_denied place code true h = cc

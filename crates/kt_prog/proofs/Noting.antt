@@ -23,6 +23,7 @@ use Rattle.kt_prog.specs.declared.programs.Param.{Param}
 use Rattle.kt_prog.specs.declared.programs.Program.{Program}
 use Rattle.kt_prog.specs.declared.programs.Sort.{Sort}
 use Rattle.kt_prog.specs.declared.programs.Task.{Task}
+use Rattle.kt_prog.proofs.Lists.{append_more}
 use Rattle.kt_prog.proofs.Noted.{noted_append}
 
 -- a list from its i-th item on
@@ -51,10 +52,6 @@ unknown_next s = next_noted (unknown_in_all s) (λ a. unknown_in_argument s a.wh
 pub others_next : (xs : List Main) (i : ℕ) (m : Main) → i < length xs → m ≡ get_or xs i m → (b : Option Refusal)
     → noted b (other_mains (drop i xs)) ≡ noted (noted b (broken_at m.place P5)) (other_mains (drop (i + 1) xs))
 others_next = next_noted other_mains (λ m. broken_at m.place P5) (λ x xs. refl)
-
-append_more : {A : Type 0} (xs ys zs : List A) → xs ++ (ys ++ zs) ≡ xs ++ ys ++ zs
-append_more [] ys zs = refl
-append_more (x ∷ xs) ys zs = ap (λ l. x ∷ l) (append_more xs ys zs)
 
 pub append_twice : (all xs ys : List Declared) → names_twice all (xs ++ ys) ≡ names_twice all xs ++ names_twice all ys
 append_twice all [] ys = refl

@@ -13,7 +13,8 @@ use Rattle.kt_prog.specs.Refusals.{noted}
 use Rattle.kt_prog.specs.Scope.{Scope, with_name}
 use Rattle.kt_prog.specs.Targets.{is_loop_of}
 use Rattle.kt_prog.specs.Accepted.{main_scope, task_scope}
-use Rattle.kt_prog.specs.Sights.{behind, kind_index, let_names, lets_in, lets_step, names_in, names_step, scope_of}
+use Rattle.kt_prog.specs.Lets.{first_let, let_names, lets_at}
+use Rattle.kt_prog.specs.Sights.{behind, kind_index, lets_in, lets_step, names_in, names_step, scope_of}
 use Rattle.kt_prog.specs.declared.checks.names.Names.{Names, map-Names, out-Names, fold_out-Names}
 use Rattle.kt_prog.specs.declared.checks.names.Names as M
 use Rattle.kt_prog.specs.declared.checks.names.Names.TheViews as V
@@ -28,6 +29,7 @@ use Rattle.kt_prog.specs.declared.sight.Kind.{Kind}
 use Rattle.kt_prog.specs.declared.sight.Known.{Known}
 use Rattle.kt_prog.specs.declared.programs.Index.{Index}
 use Rattle.kt_prog.specs.declared.programs.Param.{Param}
+use Rattle.kt_prog.proofs.Lists.{append_more}
 use Rattle.kt_prog.proofs.Noted.{noted_append}
 
 else_if : (b : Bool) (x : Kind) (y z : Option Kind) → (if b then Some x else or_else y z) ≡ or_else (if b then Some x else y) z
@@ -37,6 +39,19 @@ else_if false x y z = refl
 pub known_append : (xs ys : List Known) (name : List ℕ) → known_of (xs ++ ys) name ≡ or_else (known_of xs name) (known_of ys name)
 known_append [] ys name = refl
 known_append (k ∷ xs) ys name = rw (known_append xs ys name) (else_if (bytes_eq k.name name) k.kind (known_of xs name) (known_of ys name))
+
+none_else : (x y : Option Kind) → is_some x ≡ false → or_else x y ≡ y
+none_else None y h = refl
+none_else (Some x) y h = cc
+
+-- a place of a `let` that binds another name is passed
+pub place_next : (stmts : List Stmt) (places : List ℕ) (i p d : ℕ) (name : List ℕ) → i < length places → p ≡ get_or places i d → is_some (known_of (first_let (drop p stmts)) name) ≡ false
+    → known_of (lets_at stmts (drop i places)) name ≡ known_of (lets_at stmts (drop (i + 1) places)) name
+place_next stmts places i p d name h is other =
+    let front : drop i places ≡ p ∷ drop (i + 1) places = rw (add-one, drop-cons places i d, ← is) refl in
+    ap (λ l. known_of (lets_at stmts l) name) front
+    ∙ known_append (first_let (drop p stmts)) (lets_at stmts (drop (i + 1) places)) name
+    ∙ none_else (known_of (first_let (drop p stmts)) name) (known_of (lets_at stmts (drop (i + 1) places)) name) other
 
 pub index_known : (index : Option Index) (name : List ℕ) → known_of (known_index index) name ≡ kind_index index name
 index_known None name = refl
@@ -56,10 +71,6 @@ taken_is index before name =
     ∙ some_either (known_of (known_index index) name) (known_of (map known_param before) name)
     ∙ ap (λ k. is_some k || is_some (known_of (map known_param before) name)) (index_known index name)
 
-append_more : {A : Type 0} (xs ys zs : List A) → xs ++ ys ++ zs ≡ xs ++ (ys ++ zs)
-append_more [] ys zs = refl
-append_more (x ∷ xs) ys zs = ap (λ l. x ∷ l) (append_more xs ys zs)
-
 map_one : (xs : List Param) (p : Param) → map known_param (xs ++ p ∷ []) ≡ map known_param xs ++ known_param p ∷ []
 map_one [] p = refl
 map_one (x ∷ xs) p = ap (λ l. known_param x ∷ l) (map_one xs p)
@@ -73,7 +84,7 @@ params_next in_loop index c xs i p h is b =
     let d : drop i xs ≡ p ∷ drop (i + 1) xs = rw (add-one, drop-cons xs i p, ← is) refl in
     let t : take (i + 1) xs ≡ take i xs ++ p ∷ [] = rw (take_more xs i p, ← is) refl in
     let known : index ++ map known_param (take i xs) ++ known_param p ∷ [] ≡ index ++ map known_param (take (i + 1) xs) =
-    append_more index (map known_param (take i xs)) (known_param p ∷ []) ∙ ap (λ l. index ++ l) (sym (ap (map known_param) t ∙ map_one (take i xs) p)) in
+    sym (append_more index (map known_param (take i xs)) (known_param p ∷ [])) ∙ ap (λ l. index ++ l) (sym (ap (map known_param) t ∙ map_one (take i xs) p)) in
     let first = sort_rule in_loop c p p.sort in
     let name = denied p.name_place P5 (is_some (known_of (index ++ map known_param (take i xs)) p.name)) in
     let rest = param_rules in_loop (index ++ map known_param (take (i + 1) xs)) (counted c p.sort) (drop (i + 1) xs) in
@@ -91,10 +102,16 @@ lets_out = fold_out-Names ℕ lets_step
 pub names_block : (outer : Bor Names) (stmts : Bor (List Stmt)) → names_in (V.Block outer stmts) ≡ names_in outer.now ++ let_names stmts.now
 names_block outer stmts = names_out (V.Block outer stmts) ∙ ap (λ x. names_step (map-Names _ _ names_in x)) (V.outs-Block outer stmts)
 
+pub names_lets : (outer : Bor Names) (stmts : Bor (List Stmt)) (places : Bor (List ℕ)) → names_in (V.Lets outer stmts places) ≡ names_in outer.now ++ lets_at stmts.now places.now
+names_lets outer stmts places = names_out (V.Lets outer stmts places) ∙ ap (λ x. names_step (map-Names _ _ names_in x)) (V.outs-Lets outer stmts places)
+
 pub names_turn : (outer : Bor Names) (name : Bor (List ℕ)) → names_in (V.Turn outer name) ≡ names_in outer.now ++ record { name = name.now; kind = Number } ∷ []
 names_turn outer name = names_out (V.Turn outer name) ∙ ap (λ x. names_step (map-Names _ _ names_in x)) (V.outs-Turn outer name)
 
-lets_block : (outer : Bor Names) (stmts : Bor (List Stmt)) → lets_in (V.Block outer stmts) ≡ lets_in outer.now + length (let_names stmts.now)
+pub lets_lets : (outer : Bor Names) (stmts : Bor (List Stmt)) (places : Bor (List ℕ)) → lets_in (V.Lets outer stmts places) ≡ lets_in outer.now + length places.now
+lets_lets outer stmts places = lets_out (V.Lets outer stmts places) ∙ ap (λ x. lets_step (map-Names _ _ lets_in x)) (V.outs-Lets outer stmts places)
+
+pub lets_block : (outer : Bor Names) (stmts : Bor (List Stmt)) → lets_in (V.Block outer stmts) ≡ lets_in outer.now + length (let_names stmts.now)
 lets_block outer stmts = lets_out (V.Block outer stmts) ∙ ap (λ x. lets_step (map-Names _ _ lets_in x)) (V.outs-Block outer stmts)
 
 lets_turn : (outer : Bor Names) (name : Bor (List ℕ)) → lets_in (V.Turn outer name) ≡ lets_in outer.now + 1
@@ -108,10 +125,9 @@ turn_scope s name =
     ap (λ k. scope_with s k (lets_in (V.Turn s.names name))) (names_turn s.names name)
     ∙ ap (λ k. scope_with s (names_in s.names.now ++ record { name = name.now; kind = Number } ∷ []) k) (lets_turn s.names name)
 
-pub block_scope : (s : Sight) (stmts : Bor (List Stmt)) → scope_with s (names_in (V.Block s.names stmts)) (lets_in (V.Block s.names stmts)) ≡ behind (scope_of s) stmts.now
-block_scope s stmts =
-    ap (λ k. scope_with s k (lets_in (V.Block s.names stmts))) (names_block s.names stmts)
-    ∙ ap (λ k. scope_with s (names_in s.names.now ++ let_names stmts.now) k) (lets_block s.names stmts)
+pub block_scope : (s : Sight) (names : Names) (stmts : List Stmt) → names_in names ≡ names_in s.names.now ++ let_names stmts → lets_in names ≡ lets_in s.names.now + length (let_names stmts)
+    → scope_with s (names_in names) (lets_in names) ≡ behind (scope_of s) stmts
+block_scope s names stmts is count = ap (λ k. scope_with s k (lets_in names)) is ∙ ap (λ k. scope_with s (names_in s.names.now ++ let_names stmts) k) count
 
 abbrev begun : Program → Bool → Bool → List Known → ℕ → Scope
 begun p in_main in_loop names lets = record { families = p.families; tasks = p.tasks; in_main = in_main; in_loop = in_loop; names = names; lets = lets }

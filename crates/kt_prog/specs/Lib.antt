@@ -28,4 +28,6 @@ pub mod Entries
 pub mod Outcome
 pub mod LastWriter
 pub mod Laws
+pub mod Lets
+pub mod Chains
 pub mod Sights

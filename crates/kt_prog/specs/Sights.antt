@@ -1,5 +1,5 @@
 -- What the check has in sight: the scope that its view of the text stands for.
-use Rattle.std.specs.Prelude.{ℕ, ◌+◌, Bool, false, List, [], ◌∷◌, ◌++◌, length, map, Option, Some, None, if◌then◌else◌}
+use Rattle.std.specs.Prelude.{ℕ, ◌+◌, List, [], ◌∷◌, ◌++◌, length, map, Option, Some, None, if◌then◌else◌}
 use Rattle.std.specs.Str.{bytes_eq}
 use Rattle.kt_law.specs.declared.places.Place.{Place}
 use Rattle.kt_prog.specs.Scope.{Scope, known_index, known_param}
@@ -8,13 +8,12 @@ use Rattle.kt_prog.specs.ForkRules.{wants_many, wants_other}
 use Rattle.kt_prog.specs.declared.programs.Sort.{Sort}
 use Rattle.kt_prog.specs.declared.programs.Sort.TheVariants as S
 use Rattle.kt_prog.specs.Declarations.{Declared}
+use Rattle.kt_prog.specs.Lets.{let_names, lets_at}
 use Rattle.kt_prog.specs.declared.programs.Family.{Family}
 use Rattle.kt_prog.specs.declared.programs.Task.{Task}
 use Rattle.kt_prog.specs.declared.programs.Param.{Param}
 use Rattle.kt_prog.specs.declared.programs.Index.{Index}
 use Rattle.kt_prog.specs.declared.programs.Stmt.{Stmt}
-use Rattle.kt_prog.specs.declared.programs.What.{What, What-F, out-What}
-use Rattle.kt_prog.specs.declared.programs.What.TheOpen as W
 use Rattle.kt_prog.specs.declared.sight.Kind.{Kind}
 use Rattle.kt_prog.specs.declared.sight.Kind.TheVariants as K
 use Rattle.kt_prog.specs.declared.sight.Known.{Known}
@@ -26,22 +25,10 @@ abbrev pub kind_index : Option Index → List ℕ → Option Kind
 kind_index None name = None
 kind_index (Some index) name = if bytes_eq index.name name then Some K.Index else None
 
--- the name that a statement leaves in sight
-abbrev pub let_name : What-F What Stmt → List Known
-let_name (W.Let name place e) = record { name = name; kind = K.Variable } ∷ []
-let_name _ = []
-
-abbrev pub is_let_of : What-F What Stmt → List ℕ → Bool
-is_let_of (W.Let other place e) name = bytes_eq other name
-is_let_of _ name = false
-
-abbrev pub let_names : List Stmt → List Known
-let_names [] = []
-let_names (stmt ∷ stmts) = let_name (out-What stmt.what) ++ let_names stmts
-
 abbrev pub names_step : Names-F (List Known) → List Known
 names_step N.Nothing = []
 names_step (N.Head task) = known_index task.now.index ++ map known_param task.now.params
+names_step (N.Lets outer stmts places) = outer.now ++ lets_at stmts.now places.now
 names_step (N.Block outer stmts) = outer.now ++ let_names stmts.now
 names_step (N.Turn outer name) = outer.now ++ record { name = name.now; kind = K.Number } ∷ []
 
@@ -51,6 +38,7 @@ names_in = fold-Names (List Known) names_step
 abbrev pub lets_step : Names-F ℕ → ℕ
 lets_step N.Nothing = 0
 lets_step (N.Head task) = 0
+lets_step (N.Lets outer stmts places) = outer.now + length places.now
 lets_step (N.Block outer stmts) = outer.now + length (let_names stmts.now)
 lets_step (N.Turn outer name) = outer.now + 1
 

@@ -1,4 +1,6 @@
 // Calls.
+ghost use Rattle.std.specs.Prelude.{◌≡◌, ◌≤◌, length};
+ghost use Rattle.kt_prog.specs.Calls.{main_call};
 
 use arrayvec::ArrayVec;
 use kt_law::{ACCESSES, Access, INTS};
@@ -30,4 +32,54 @@ impl Model for Call {
       ints = c.ints.items;
       accesses = c.accesses.items;
     } };
+}
+
+impl Call {
+    /// The call of `main`.
+    pub fn of_main() -> Call
+        ensures { result ≡ main_call }
+    {
+        Call {
+            task: 0,
+            depth: 0,
+            length: 0,
+            ints: ArrayVec::new(),
+            accesses: ArrayVec::new(),
+        }
+    }
+
+    /// The same call once more, which takes no memory.
+    pub fn copied(&self) -> Call
+        ensures { result ≡ self.now }
+    {
+        Call {
+            task: self.task,
+            depth: self.depth,
+            length: self.length,
+            ints: copied_ints(self.ints.as_slice()),
+            accesses: copied_accesses(self.accesses.as_slice()),
+        }
+    }
+}
+
+fn copied_ints(from: &[u64]) -> ArrayVec<u64, INTS>
+    requires { length from.now ≤ INTS }
+    ensures { result.items ≡ from.now }
+{
+    let mut ints = ArrayVec::new();
+    match ints.try_extend_from_slice(from) {
+        Ok(()) => ints,
+        Err(_) => unreachable!(),
+    }
+}
+
+fn copied_accesses(from: &[Access]) -> ArrayVec<Access, ACCESSES>
+    requires { length from.now ≤ ACCESSES }
+    ensures { result.items ≡ from.now }
+{
+    let mut accesses = ArrayVec::new();
+    match accesses.try_extend_from_slice(from) {
+        Ok(()) => accesses,
+        Err(_) => unreachable!(),
+    }
 }

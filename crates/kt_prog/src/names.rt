@@ -27,6 +27,7 @@ impl Model for Name {
 }
 
 impl Name {
+    /// The name that these bytes are.
     pub fn new(text: &[u8]) -> Name
         requires { IsName text.now }
         ensures { result ≡ text.now }
@@ -37,6 +38,7 @@ impl Name {
         Name { bytes, len }
     }
 
+    /// Its bytes, for comparing and copying.
     pub fn as_bytes(&self) -> &[u8]
         ensures bytes { result.now ≡ self.now }
         ensures name { IsName self.now }
@@ -44,6 +46,7 @@ impl Name {
         &self.bytes[..self.len]
     }
 
+    /// Its text, for printing and for comparing with words.
     pub fn as_str(&self) -> &str
         ensures { result.now ≡ self.now }
     {

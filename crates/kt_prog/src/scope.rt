@@ -20,3 +20,13 @@ pub struct Local {
     pub name: Name,
     pub bound: Bound,
 }
+
+// An array of locals is filled with this one where it has none yet.
+impl Default for Local {
+    fn default() -> Local {
+        Local {
+            name: Name::new(b"_"),
+            bound: Bound::Number(0),
+        }
+    }
+}

@@ -1,14 +1,15 @@
 // The rules of declarations.
 ghost use Rattle.std.specs.Prelude.{◌≡◌, ◌+◌, ◌*◌, ◌≤◌, [], ◌∷◌, false, is_some, map};
 ghost use Rattle.kt_law.specs.declared.limits.TheConstants.{ELEMENTS, OBJECTS};
-ghost use Rattle.kt_prog.specs.Declarations.{count_rules, declared_in, family_rules, is_earlier, main_rules, names_twice, other_mains, too_large};
+ghost use Rattle.kt_prog.specs.Declarations.{count_rules, declared_in, family_rules, main_rules, names_twice, other_mains, too_large};
 ghost use Rattle.kt_prog.specs.Targets.{kernel_named};
 ghost use Rattle.kt_prog.specs.Refusals.{noted};
 ghost use Rattle.kt_prog.specs.Sights.{declared_family, declared_task};
 
-use super::least::{is_before, note, note_if};
+use super::directories::Directory;
+use super::least::{note, note_if};
 use crate::names::Name;
-use crate::programs::{Family, Main, Program, Task};
+use crate::programs::{Family, Main, Task};
 use kt_law::{DEFINITIONS, ELEMENTS, OBJECTS, P, Place, Refusal, WIDTH};
 
 fn is_kernel(name: &Name) -> bool
@@ -18,44 +19,14 @@ fn is_kernel(name: &Name) -> bool
     "k_mul" == name || "k_minplus" == name || "k_stencil" == name || "k_scan" == name
 }
 
-fn is_family_before(families: &[Family], name: &Name, place: Place) -> bool
-    ensures { result ≡ is_earlier (map declared_family families.now) (record { name = name.now; place = place }) }
-{
-    for family in families {
-        if family.name.is(name) && is_before(family.place, place) {
-            return true;
-        }
-    }
-    false
-}
-
-fn is_task_before(tasks: &[Task], name: &Name, place: Place) -> bool
-    ensures { result ≡ is_earlier (map declared_task tasks.now) (record { name = name.now; place = place }) }
-{
-    for task in tasks {
-        if task.name.is(name) && is_before(task.place, place) {
-            return true;
-        }
-    }
-    false
-}
-
-#[tactic(auto, using(crate::proofs::Noting::declared_either))]
-fn is_declared_before(program: &Program, name: &Name, place: Place) -> bool
-    ensures { result ≡ is_earlier (declared_in program.now) (record { name = name.now; place = place }) }
-{
-    is_family_before(program.families.as_slice(), name, place)
-        || is_task_before(program.tasks.as_slice(), name, place)
-}
-
-fn check_name(program: &Program, name: &Name, place: Place, found: &mut Option<Refusal>)
+fn check_name(program: &Directory, name: &Name, place: Place, found: &mut Option<Refusal>)
     ensures { found.new ≡ noted found.old (names_twice (declared_in program.now) (record { name = name.now; place = place } ∷ [])) }
 {
-    let taken = is_kernel(name) || is_declared_before(program, name, place);
+    let taken = is_kernel(name) || program.is_declared_before(name, place);
     note_if(found, place, P::P5, taken);
 }
 
-fn check_family_names(program: &Program, families: &[Family], found: &mut Option<Refusal>)
+fn check_family_names(program: &Directory, families: &[Family], found: &mut Option<Refusal>)
     ensures { found.new ≡ noted found.old (names_twice (declared_in program.now) (map declared_family families.now)) }
 {
     for family in families {
@@ -63,7 +34,7 @@ fn check_family_names(program: &Program, families: &[Family], found: &mut Option
     }
 }
 
-fn check_task_names(program: &Program, tasks: &[Task], found: &mut Option<Refusal>)
+fn check_task_names(program: &Directory, tasks: &[Task], found: &mut Option<Refusal>)
     ensures { found.new ≡ noted found.old (names_twice (declared_in program.now) (map declared_task tasks.now)) }
 {
     for task in tasks {
@@ -72,11 +43,11 @@ fn check_task_names(program: &Program, tasks: &[Task], found: &mut Option<Refusa
 }
 
 /// Notes the declarations that have the name of an earlier one or of a kernel.
-pub fn check_names_twice(program: &Program, found: &mut Option<Refusal>)
+pub fn check_names_twice(program: &Directory, found: &mut Option<Refusal>)
     ensures { found.new ≡ noted found.old (names_twice (declared_in program.now) (declared_in program.now)) }
 {
-    check_family_names(program, program.families.as_slice(), found);
-    check_task_names(program, program.tasks.as_slice(), found);
+    check_family_names(program, program.families(), found);
+    check_task_names(program, program.tasks(), found);
 }
 
 fn note_mains(mains: &[Main], found: &mut Option<Refusal>)

@@ -157,19 +157,18 @@ fn check_task(
 
 fn check_named(
     sight: &Sight,
-    tasks: &[Task],
     name: &Name,
     place: Place,
     len: &Option<Expr>,
     args: &[Arg],
     found: &mut Option<Refusal>,
 )
-    ensures { found.new ≡ noted found.old (fork_rule (task_named 1 tasks.now name.now) place (scope_of sight.now) len.now args.now) }
+    ensures { found.new ≡ noted found.old (fork_rule (task_named 1 sight.now.program.now.tasks name.now) place (scope_of sight.now) len.now args.now) }
 {
-    for task in tasks {
-        if task.name.is(name) {
-            return check_task(sight, task, place, len, args, found);
-        }
+    let tasks = sight.program.tasks();
+    let at = sight.program.task_at(name);
+    if at < tasks.len() {
+        return check_task(sight, &tasks[at], place, len, args, found);
     }
     note(found, place, P::P6);
     check_length(sight, len, found);
@@ -196,7 +195,6 @@ pub fn check_fork(
     } else if "k_scan" == name.as_str() {
         check_kernel(sight, &SCAN, place, len, args, found);
     } else {
-        let tasks = sight.program.tasks.as_slice();
-        check_named(sight, tasks, name, place, len, args, found);
+        check_named(sight, name, place, len, args, found);
     }
 }

@@ -5,10 +5,14 @@ ghost use Rattle.kt_prog.specs.Accepted.{IsAccepted, mains_rules, task_rules};
 ghost use Rattle.kt_prog.specs.Refusals.{noted, refusal_of};
 
 mod arguments;
+mod chains;
 mod declarations;
+mod directories;
 mod exprs;
 mod forks;
 mod least;
+mod lets;
+mod lookups;
 mod names;
 mod params;
 mod statements;
@@ -17,12 +21,13 @@ mod tests;
 
 use crate::programs::{Main, Program, Task};
 use declarations::{check_counts, check_families, check_mains, check_names_twice};
+use directories::Directory;
 use kt_law::Refusal;
 use names::{Names, Sight};
 use params::check_params;
 use statements::check_block;
 
-fn check_tasks(program: &Program, tasks: &[Task], found: &mut Option<Refusal>)
+fn check_tasks(program: &Directory, tasks: &[Task], found: &mut Option<Refusal>)
     ensures { found.new ≡ noted found.old (task_rules program.now tasks.now) }
 {
     for task in tasks {
@@ -37,7 +42,7 @@ fn check_tasks(program: &Program, tasks: &[Task], found: &mut Option<Refusal>)
     }
 }
 
-fn check_bodies(program: &Program, mains: &[Main], found: &mut Option<Refusal>)
+fn check_bodies(program: &Directory, mains: &[Main], found: &mut Option<Refusal>)
     ensures { found.new ≡ noted found.old (mains_rules program.now mains.now) }
 {
     let sight = Sight {
@@ -54,13 +59,14 @@ fn check_bodies(program: &Program, mains: &[Main], found: &mut Option<Refusal>)
 fn first_breach(program: &Program) -> Option<Refusal>
     ensures { result ≡ refusal_of program.now }
 {
+    let directory = Directory::of(program);
     let mut found = None;
-    check_names_twice(program, &mut found);
+    check_names_twice(&directory, &mut found);
     check_mains(program.end, program.mains.as_slice(), &mut found);
     check_families(program.families.as_slice(), &mut found);
     check_counts(program.tasks.as_slice(), &mut found);
-    check_tasks(program, program.tasks.as_slice(), &mut found);
-    check_bodies(program, program.mains.as_slice(), &mut found);
+    check_tasks(&directory, program.tasks.as_slice(), &mut found);
+    check_bodies(&directory, program.mains.as_slice(), &mut found);
     found
 }
 

@@ -1,18 +1,22 @@
 // The names in sight.
-ghost use Rattle.std.specs.Prelude.{◌≡◌, ◌-◌, [], ◌∷◌, length, map};
+ghost use Rattle.std.specs.Prelude.{◌≡◌, ◌+◌, ◌++◌, ◌-◌, ◌<◌, ◌≤◌, [], ◌∷◌, length, map, take};
 ghost use Rattle.kt_law.specs.declared.limits.TheConstants.{LOCALS};
-ghost use Rattle.kt_prog.specs.Scope.{family_known, kind_of, kind_sort, known_of, known_param};
+ghost use Rattle.kt_prog.specs.Scope.{kind_of, kind_sort, known_of, known_param};
 ghost use Rattle.kt_prog.specs.Rules.{new_name};
 ghost use Rattle.kt_prog.specs.Refusals.{noted};
-ghost use Rattle.kt_prog.specs.Sights.{is_let_of, kind_index, lets_in, names_in, let_names, scope_of};
+ghost use Rattle.kt_prog.specs.Sights.{kind_index, lets_in, names_in, scope_of};
+ghost use Rattle.kt_prog.specs.Lets.{let_names, lets_at};
+ghost use Rattle.kt_prog.specs.declared.checks.lets.TheConstants.{ROOM};
 ghost use Rattle.kt_prog.specs.declared.programs.What.{out-What};
 ghost use Rattle.kt_prog.specs.declared.sight.Kind.TheVariants.{Number};
 
+use super::directories::Directory;
 use super::least::note_if;
+use super::lets::{Lets, is_let, let_kind_at};
 use crate::names::Name;
-use crate::programs::{Family, Index, Param, Program, Sort, Stmt, Task, What};
+use crate::programs::{Index, Param, Sort, Stmt, Task, What};
 use crate::sight::Kind;
-use kt_law::{LOCALS, Mode, P, Place, Refusal};
+use kt_law::{LOCALS, P, Place, Refusal};
 
 /// The names of a body that are in sight. They take no memory: each is read where the text binds it.
 #[derive(Clone, Copy)]
@@ -21,16 +25,39 @@ pub enum Names<'a> {
     Nothing,
     /// The index and the parameters of a task or loop.
     Head(&'a Task),
+    /// With the `let` names of these statements, which stand at these places.
+    Lets(&'a Names<'a>, &'a [Stmt], &'a [usize]),
     /// With the `let` names of these statements, which begin a block.
     Block(&'a Names<'a>, &'a [Stmt]),
     /// With a `for` name.
     Turn(&'a Names<'a>, &'a Name),
 }
 
+/// What is in sight behind so many statements of a block. Without room for their `let` names these are looked up in the
+/// statements, which takes long; but then there are too many of them.
+pub fn names_behind<'a>(
+    outer: &'a Names<'a>,
+    stmts: &'a [Stmt],
+    count: usize,
+    lets: &'a Lets,
+) -> Names<'a>
+    requires count { count ≤ length stmts.now }
+    requires lets { length lets.now < ROOM → lets_at stmts.now lets.now ≡ let_names (take count stmts.now) }
+    requires all { length lets.now < ROOM → length lets.now ≡ length (let_names (take count stmts.now)) }
+    ensures names { names_in result ≡ names_in outer.now ++ let_names (take count stmts.now) }
+    ensures lets { lets_in result ≡ lets_in outer.now + length (let_names (take count stmts.now)) }
+{
+    if lets.is_full() {
+        Names::Block(outer, &stmts[..count])
+    } else {
+        Names::Lets(outer, stmts, lets.places())
+    }
+}
+
 /// What is in sight at a place of a body.
 #[derive(Clone, Copy)]
-pub struct Sight<'a> {
-    pub program: &'a Program,
+pub struct Sight<'a, 'p> {
+    pub program: &'a Directory<'p>,
     pub in_main: bool,
     pub in_loop: bool,
     pub names: &'a Names<'a>,
@@ -66,15 +93,6 @@ pub fn param_kind(params: &[Param], name: &Name) -> Option<Kind>
     None
 }
 
-fn is_let(what: &What, name: &Name) -> bool
-    ensures { result ≡ is_let_of (out-What what.now) name.now }
-{
-    match what {
-        What::Let(other, _, _) => other.is(name),
-        _ => false,
-    }
-}
-
 fn let_kind(stmts: &[Stmt], name: &Name) -> Option<Kind>
     ensures { result ≡ known_of (let_names stmts.now) name.now }
 {
@@ -105,6 +123,10 @@ fn known_kind(names: &Names, name: &Name) -> Option<Kind>
             Some(kind) => Some(kind),
             None => param_kind(task.params.as_slice(), name),
         },
+        Names::Lets(outer, stmts, places) => match known_kind(outer, name) {
+            Some(kind) => Some(kind),
+            None => let_kind_at(stmts, places, name),
+        },
         Names::Block(outer, stmts) => match known_kind(outer, name) {
             Some(kind) => Some(kind),
             None => let_kind(stmts, name),
@@ -116,21 +138,6 @@ fn known_kind(names: &Names, name: &Name) -> Option<Kind>
     }
 }
 
-fn family_kind(families: &[Family], name: &Name) -> Option<Kind>
-    ensures { result ≡ family_known families.now name.now }
-{
-    for family in families {
-        if family.name.is(name) {
-            return Some(if family.many {
-                Kind::Many(Mode::Xp)
-            } else {
-                Kind::One(Mode::Xp)
-            });
-        }
-    }
-    None
-}
-
 /// What the name is, if it is in sight.
 pub fn kind_at(sight: &Sight, name: &Name) -> Option<Kind>
     ensures { result ≡ kind_of (scope_of sight.now) name.now }
@@ -139,7 +146,7 @@ pub fn kind_at(sight: &Sight, name: &Name) -> Option<Kind>
         Some(kind) => Some(kind),
         None => {
             if sight.in_main {
-                family_kind(sight.program.families.as_slice(), name)
+                sight.program.family_kind(name)
             } else {
                 None
             }
@@ -147,7 +154,7 @@ pub fn kind_at(sight: &Sight, name: &Name) -> Option<Kind>
     }
 }
 
-fn room_behind(room: u32, stmts: &[Stmt]) -> u32
+fn room_behind(room: usize, stmts: &[Stmt]) -> usize
     ensures { result ≡ room - length (let_names stmts.now) }
 {
     let mut left = room;
@@ -159,13 +166,20 @@ fn room_behind(room: u32, stmts: &[Stmt]) -> u32
     left
 }
 
+fn lets_left(room: usize, places: &[usize]) -> usize
+    ensures { result ≡ room - length places.now }
+{
+    room.saturating_sub(places.len())
+}
+
 /// How many more `let` and `for` names may be visible.
-fn room(names: &Names) -> u32
+fn room(names: &Names) -> usize
     ensures { result ≡ LOCALS - lets_in names.now }
 {
     match names {
-        Names::Nothing => LOCALS,
-        Names::Head(_) => LOCALS,
+        Names::Nothing => LOCALS as usize,
+        Names::Head(_) => LOCALS as usize,
+        Names::Lets(outer, _, places) => lets_left(room(outer), places),
         Names::Block(outer, stmts) => room_behind(room(outer), stmts),
         Names::Turn(outer, _) => room(outer).saturating_sub(1),
     }

@@ -10,7 +10,8 @@ ghost use Rattle.kt_prog.specs.Sights.{scope_of};
 use super::exprs::{check_expr, is_index, is_own};
 use super::forks::check_fork;
 use super::least::{note, note_if};
-use super::names::{Names, Sight, check_new_name, kind_at};
+use super::lets::Lets;
+use super::names::{Names, Sight, check_new_name, kind_at, names_behind};
 use crate::names::Name;
 use crate::programs::{Expr, Stmt, What};
 use crate::sight::Kind;
@@ -118,12 +119,14 @@ fn check_what(sight: &Sight, at: Place, what: &What, found: &mut Option<Refusal>
 pub fn check_block(sight: &Sight, stmts: &[Stmt], found: &mut Option<Refusal>)
     ensures { found.new ≡ noted found.old (block_rules (map rules_of_stmt stmts.now) (scope_of sight.now)) }
 {
+    let mut lets = Lets::new();
     for (i, stmt) in stmts.iter().enumerate() {
-        let names = Names::Block(sight.names, &stmts[..i]);
+        let names = names_behind(sight.names, stmts, i, &lets);
         let behind = Sight {
             names: &names,
             ..*sight
         };
         check_what(&behind, stmt.place, &stmt.what, found);
+        lets.keep(i, &stmt.what);
     }
 }

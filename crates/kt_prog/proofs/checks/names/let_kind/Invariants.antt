@@ -1,6 +1,6 @@
 use Rattle.std.proofs.Common.{◌≡◌, drop}
 use Rattle.kt_prog.specs.Scope.{known_of}
-use Rattle.kt_prog.specs.Sights.{let_names}
+use Rattle.kt_prog.specs.Lets.{let_names}
 use Rattle.kt_prog.proofs.checks.names.let_kind.Given as goal
 
 abbrev pub invariant-loop-stmt : goal.invariant-loop-stmt

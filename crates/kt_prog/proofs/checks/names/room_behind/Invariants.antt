@@ -1,5 +1,5 @@
 use Rattle.std.proofs.Common.{◌≡◌, ◌-◌, drop, length}
-use Rattle.kt_prog.specs.Sights.{let_names}
+use Rattle.kt_prog.specs.Lets.{let_names}
 use Rattle.kt_prog.proofs.checks.names.room_behind.Given as goal
 
 abbrev pub invariant-loop-stmt : goal.invariant-loop-stmt

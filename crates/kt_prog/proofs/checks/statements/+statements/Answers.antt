@@ -1,4 +1,5 @@
-use Rattle.std.proofs.Common.{[], ap, sym, map, refl, ◌∙◌}
+use Rattle.std.proofs.Common.{[], ap, sym, length, map, refl, ◌∙◌}
+use Rattle.kt_prog.specs.Lets.{lets_at}
 use Rattle.kt_prog.specs.StatementRules.{rules_of_stmt}
 use Rattle.kt_prog.specs.Refusals.{noted}
 use Rattle.kt_prog.specs.Rules.{breaches_in, new_name}
@@ -7,7 +8,7 @@ use Rattle.kt_prog.specs.Sights.{behind, scope_of}
 use Rattle.kt_prog.specs.declared.sight.Kind.TheVariants.{Number}
 use Rattle.kt_prog.proofs.Noted.{noted_append}
 use Rattle.kt_prog.proofs.Equations.{what_let, what_set, what_store, what_fold, what_if, what_for, what_fork}
-use Rattle.kt_prog.proofs.Blocks.{behind_none, block_none, block_step, noted_at}
+use Rattle.kt_prog.proofs.Blocks.{behind_none, block_none, block_step, kept_next, all_next, noted_at}
 use Rattle.kt_prog.proofs.Sighting.{block_scope, turn_scope}
 use Rattle.kt_prog.proofs.checks.statements.+statements.Goals as goal
 
@@ -35,11 +36,18 @@ pub check_what-returns-in-Fork : goal.check_what-returns-in-Fork
 check_what-returns-in-Fork t c = rw (c.in-Fork.is, what_fork, noted_append, c.check_fork.ensures, c.note_if.ensures, c.as_slice-in-Fork.ensures) refl
 
 pub check_block-loop-i-init : goal.check_block-loop-i-init
-check_block-loop-i-init t c = noted_at c.args.found.now (map rules_of_stmt c.args.stmts.now) (scope_of c.args.sight.now) (behind (scope_of c.args.sight.now) []) (sym (behind_none (scope_of c.args.sight.now)))
+check_block-loop-i-init t c = (
+  λ _. ap (lets_at c.args.stmts.now) c.new-lets.ensures,
+  λ _. ap length c.new-lets.ensures,
+  noted_at c.args.found.now (map rules_of_stmt c.args.stmts.now) (scope_of c.args.sight.now) (behind (scope_of c.args.sight.now) []) (sym (behind_none (scope_of c.args.sight.now))),
+)
 
 pub check_block-loop-i-preserved : goal.check_block-loop-i-preserved
-check_block-loop-i-preserved t c =
-    c.loop-i.invariant ∙ block_step _ _ _ _ _ _ _ c.loop-i-test.true c.index-stmts-i.is (block_scope c.args.sight.now _) c.check_what.ensures
+check_block-loop-i-preserved t c = (
+  kept_next _ _ _ _ _ _ c.loop-i-test.true c.index-stmts-i.is c.keep.ensures c.loop-i.invariant.0,
+  all_next _ _ _ _ _ _ c.loop-i-test.true c.index-stmts-i.is c.keep.ensures c.loop-i.invariant.1,
+  c.loop-i.invariant.2 ∙ block_step _ _ _ _ _ _ _ c.loop-i-test.true c.index-stmts-i.is (block_scope c.args.sight.now _ _ c.names_behind-names.ensures.names c.names_behind-names.ensures.lets) c.check_what.ensures,
+)
 
 pub check_block-returns : goal.check_block-returns
-check_block-returns t c = sym (c.loop-i.invariant ∙ ap (noted c.loop-i.found) (block_none _ _ _ c.loop-i-test.false))
+check_block-returns t c = sym (c.loop-i.invariant.2 ∙ ap (noted c.loop-i.found) (block_none _ _ _ c.loop-i-test.false))
