@@ -9,7 +9,7 @@ use Rattle.kt_read.specs.declared.tokens.Tok.{Tok}
 use Rattle.kt_read.specs.Jobs.{IsJob, GoesOn, IsUnread, malformed, unexpected, too_deep}
 use Rattle.kt_read.specs.Programs.{ReadsProgram}
 use Rattle.kt_read.specs.Words.{tok_of, toks_of}
-use Rattle.kt_read.proofs.ThinParts.{at_front}
+use Rattle.kt_read.proofs.Fronts.{at_front}
 use Rattle.kt_read.proofs.MoreTokens.{program_more}
 use Rattle.kt_read.proofs.OneProgram.{program_is}
 use Rattle.kt_read.proofs.OneText.{one_answer, no_toks}

@@ -5,7 +5,7 @@ use Rattle.kt_prog.specs.declared.programs.Expr.{Expr, Elem, Bin}
 use Rattle.kt_read.specs.declared.tokens.Tok.{Tok}
 use Rattle.kt_read.specs.Operators.{comparison_of}
 use Rattle.kt_read.specs.Expressions.{ReadsExpr, alone, compared, ReadsSum, sum_of, ReadsTerms, no_term, one_term, ReadsProduct, product_of, ReadsFactors, no_factor, one_factor, ReadsAtom, number, name, element, function, group}
-use Rattle.kt_read.proofs.ThinParts.{at_front}
+use Rattle.kt_read.proofs.Fronts.{at_front}
 use Rattle.kt_read.proofs.Endings.{EndsAtom, EndsProduct, EndsSum, EndsExpr, same_tail, one_entry, no_entry, one_operator, not_carried, factor_ends, term_ends, comparison_ends, at_square, at_paren, at_comma}
 
 bin_same : {x y : BinOp} {a b c d : Expr} → x ≡ y → a ≡ c → b ≡ d → Bin x a b ≡ Bin y c d

@@ -20,11 +20,10 @@ use Rattle.kt_read.specs.declared.tokens.Symbol.{Symbol}
 use Rattle.kt_read.specs.declared.tokens.Symbol.TheVariants as S
 use Rattle.kt_read.specs.declared.tokens.Tok.{Tok}
 use Rattle.kt_read.specs.Tokens.{◌·◌, named, numbered}
-use Rattle.kt_read.specs.ThinGrammar.{ReadsMaybe, left_out, written}
 use Rattle.kt_read.specs.Operators.{entry_of, direct_modes, direct_of, postponed_modes, postponed_of}
 use Rattle.kt_read.specs.Statements.{ReadsOp, ReadsBlock}
-use Rattle.kt_read.specs.Programs.{ReadsSize, single, range, ReadsFamily, family, ReadsDirect, direct, cumulative, ReadsPostponed, postponed, postponed_cumulative, ReadsParam, int, one_direct, one_postponed, many_postponed, ReadsParams, one_param, more_params, ReadsMaybeParams, no_params, some_params, ReadsTask, task, loop, ReadsMain, main, ReadsProgram, data_word, one_family, one_task, one_main}
-use Rattle.kt_read.proofs.ThinParts.{at_front}
+use Rattle.kt_read.specs.Programs.{ReadsSize, single, range, ReadsFamily, family, ReadsDirect, direct, cumulative, ReadsPostponed, postponed, postponed_cumulative, ReadsParam, int, one_direct, one_postponed, many_postponed, ReadsParams, one_param, more_params, ReadsMaybeParams, no_params, some_params, ReadsTask, task, loop, ReadsMain, main, ReadsProgram, data_word, one_family, one_task, one_main, ReadsMaybe, left_out, written}
+use Rattle.kt_read.proofs.Fronts.{at_front}
 use Rattle.kt_read.proofs.Endings.{IsNotAt, elsewhere, same_head, same_tail, one_entry, no_entry}
 use Rattle.kt_read.proofs.OneStatement.{op_is, cons_same, block_is}
 
@@ -88,7 +87,7 @@ family_is (family r i o) (family s j q) =
 
 -- ---- modes
 
-abbrev AtEach : {A : Type 0} → (List ℕ → Type 0) → List (List ℕ × A) → Type 0
+abbrev pub AtEach : {A : Type 0} → (List ℕ → Type 0) → List (List ℕ × A) → Type 0
 AtEach P [] = Unit {0}
 AtEach P (row ∷ rows) = P row.0 × AtEach P rows
 
@@ -98,7 +97,7 @@ row_case P row word true other e here there h = subst P (sym ((bytes_eq-Decides 
 row_case P row word false other e here there h = there h
 
 -- a word that a table has is one of the table's words
-entry_case : {A : Type 0} (P : List ℕ → Type 0) (rows : List (List ℕ × A)) (word : List ℕ) {x : A} → AtEach P rows → entry_of rows word ≡ Some x → P word
+pub entry_case : {A : Type 0} (P : List ℕ → Type 0) (rows : List (List ℕ × A)) (word : List ℕ) {x : A} → AtEach P rows → entry_of rows word ≡ Some x → P word
 entry_case P [] word all h = absurd (no_entry refl h)
 entry_case P (row ∷ rows) word all h =
     row_case P row word (bytes_eq word row.0) (entry_of rows word) refl all.0 (λ k. entry_case P rows word all.1 k) h
@@ -137,11 +136,11 @@ unfolding class_of postponed_of
 postponed_class (postponed {n} h) = entry_case (λ n. class_of n ≡ Some IsPostponed) postponed_modes n (refl, (refl, (refl, tt))) h
 postponed_class (postponed_cumulative o) = refl
 
-cw_apart : direct_of (codes "cw") ≡ None
+pub cw_apart : direct_of (codes "cw") ≡ None
 unfolding direct_of
 cw_apart = refl
 
-cwp_apart : postponed_of (codes "cwp") ≡ None
+pub cwp_apart : postponed_of (codes "cwp") ≡ None
 unfolding postponed_of
 cwp_apart = refl
 

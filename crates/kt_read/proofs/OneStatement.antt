@@ -16,7 +16,7 @@ use Rattle.kt_read.specs.declared.tokens.Tok.{Tok}
 use Rattle.kt_read.specs.Tokens.{◌·◌, named}
 use Rattle.kt_read.specs.Expressions.{ReadsExpr, alone, compared, ReadsSum, sum_of, ReadsProduct, product_of, ReadsAtom, number, name, element, function, group}
 use Rattle.kt_read.specs.Statements.{ReadsOp, op_word, ReadsArg, value, span, ReadsArgs, one_arg, more_args, ReadsMaybeArgs, no_args, some_args, ReadsForked, without_length, with_length, ReadsBlock, block, ReadsStmts, no_stmt, one_stmt, ReadsElse, no_else, else_block, ReadsStmt, let_stmt, set_stmt, store_stmt, fold_stmt, if_stmt, for_stmt, fork_stmt}
-use Rattle.kt_read.proofs.ThinParts.{at_front}
+use Rattle.kt_read.proofs.Fronts.{at_front}
 use Rattle.kt_read.proofs.Endings.{IsNotAt, elsewhere, EndsAtom, EndsProduct, EndsSum, EndsExpr, same_head, same_tail, one_entry, comparison_ends, at_square, at_paren, at_comma, at_semicolon, at_dots, at_brace}
 use Rattle.kt_read.proofs.OneExpression.{expr_is, terms_end, factors_end}
 

@@ -1,13 +1,13 @@
 -- Statements of the laws of the grammar.
-use Rattle.std.specs.Prelude.{◌≡◌, ℕ, List, []}
+use Rattle.std.specs.Prelude.{◌≡◌, ℕ, ◌-◌, List, [], length}
 use Rattle.kt_law.specs.declared.places.Refusal.{Refusal}
 use Rattle.kt_prog.specs.declared.programs.Program.{Program}
 use Rattle.kt_read.specs.declared.tokens.Tok.{Tok}
 use Rattle.kt_read.specs.Jobs.{IsJob, IsUnread}
+use Rattle.kt_print.specs.CanonicalText.{canonical_text}
+use Rattle.kt_read.specs.Placeless.{SameButForPlaces}
 use Rattle.kt_read.specs.Programs.{ReadsProgram}
 use Rattle.kt_read.specs.Texts.{IsText}
-use Rattle.kt_read.specs.ThinGrammar.{ReadsThin}
-use Rattle.kt_read.specs.ThinJobs.{IsThinJob}
 
 -- no tokens derive from the grammar with two programs
 abbrev pub OneProgram : Type 0
@@ -25,10 +25,26 @@ OneJob = (bytes : List ℕ) (p q : Program) (i j : ℕ) → IsJob bytes p i → 
 abbrev pub JobIsRead : Type 0
 JobIsRead = (bytes : List ℕ) (p : Program) (from : ℕ) (refusal : Refusal) → IsJob bytes p from → IsUnread bytes refusal → ⊥
 
--- what derives from the thin grammar derives from the grammar, with the same program and the same rest
-abbrev pub ThinIsWhole : Type 0
-ThinIsWhole = (p : Program) (toks rest : List Tok) → ReadsThin p toks rest → ReadsProgram p toks rest
+-- no bytes are refused in two ways
+abbrev pub OneRefusal : Type 0
+OneRefusal = (bytes : List ℕ) (r s : Refusal) → IsUnread bytes r → IsUnread bytes s → r ≡ s
 
--- so a thin job is a text of the grammar
-abbrev pub ThinJobIsText : Type 0
-ThinJobIsText = (bytes : List ℕ) (p : Program) (from : ℕ) → IsThinJob bytes p from → IsText bytes p from
+-- the canonical text, but for its last line feed, is a text of the same program but for places
+pub record IsTextAgain (p : Program) : Type 0 where
+  pub program : Program
+  pub text : IsText (canonical_text p) program (length (canonical_text p) - 1)
+  pub same : SameButForPlaces p program
+
+-- so it is for each program that is read from some text
+abbrev pub CanonicalIsText : Type 0
+CanonicalIsText = (bytes : List ℕ) (p : Program) (from : ℕ) → IsText bytes p from → IsTextAgain p
+
+-- the canonical text, but for its last line feed, is a job of the same program but for places
+pub record IsJobAgain (p : Program) : Type 0 where
+  pub program : Program
+  pub job : IsJob (canonical_text p) program (length (canonical_text p) - 1)
+  pub same : SameButForPlaces p program
+
+-- so it is for each program that some bytes are a job of
+abbrev pub CanonicalIsRead : Type 0
+CanonicalIsRead = (bytes : List ℕ) (p : Program) (from : ℕ) → IsJob bytes p from → IsJobAgain p

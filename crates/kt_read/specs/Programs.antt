@@ -14,9 +14,13 @@ use Rattle.kt_prog.specs.declared.programs.Task.{Task}
 use Rattle.kt_read.specs.declared.tokens.Mark.TheVariants as T
 use Rattle.kt_read.specs.declared.tokens.Tok.{Tok}
 use Rattle.kt_read.specs.Tokens.{◌·◌, named, numbered}
-use Rattle.kt_read.specs.ThinGrammar.{ReadsMaybe}
 use Rattle.kt_read.specs.Operators.{direct_of, postponed_of}
 use Rattle.kt_read.specs.Statements.{ReadsOp, ReadsBlock}
+
+-- [ the word ]
+pub data ReadsMaybe (word : List ℕ) : Bool → List Tok → List Tok → Type 0 where
+  left_out : {us : List Tok} → ReadsMaybe word false us us
+  written : {p : Place} {us : List Tok} → ReadsMaybe word true (named word p ∷ us) us
 
 -- [ "[" NUMBER "]" ]: whether it is there, and the number, or 1
 pub data ReadsSize : Bool → ℕ → List Tok → List Tok → Type 0 where

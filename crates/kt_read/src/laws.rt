@@ -1,5 +1,5 @@
 //! Laws of the grammar. The functions do nothing; their contracts are the laws.
-ghost use Rattle.kt_read.specs.Laws.{JobIsRead, OneJob, OneProgram, OneText, ThinIsWhole, ThinJobIsText};
+ghost use Rattle.kt_read.specs.Laws.{CanonicalIsRead, CanonicalIsText, JobIsRead, OneJob, OneProgram, OneRefusal, OneText};
 
 /// The grammar is unambiguous: the same tokens are read as one program.
 pub fn one_program()
@@ -21,14 +21,20 @@ pub fn job_is_read()
     ensures { JobIsRead }
 {}
 
-/// What is read by the thin grammar is read as the same program by the whole one.
-pub fn thin_is_whole()
-    ensures { ThinIsWhole }
+/// Bytes that are refused are refused in one way.
+pub fn one_refusal()
+    ensures { OneRefusal }
 {}
 
-/// So a thin job is a text of the whole grammar.
-pub fn thin_job_is_text()
-    ensures { ThinJobIsText }
+/// The canonical text of a program that was read is read as the same program but for places.
+pub fn canonical_is_text()
+    ensures { CanonicalIsText }
+{}
+
+/// The canonical text of a job's program is a job of the same program but for places: it nests no deeper, and none of its
+/// expressions is longer.
+pub fn canonical_is_read()
+    ensures { CanonicalIsRead }
 {}
 
 #[cfg(test)]
@@ -41,7 +47,8 @@ mod tests {
         one_text();
         one_job();
         job_is_read();
-        thin_is_whole();
-        thin_job_is_text();
+        one_refusal();
+        canonical_is_text();
+        canonical_is_read();
     }
 }

@@ -1,19 +1,14 @@
-//! The reader of jobs, and the texts of answers.
+//! The reader of jobs.
 #![tactic(auto)]
 
-mod cursors;
-mod descent;
+mod gauge;
 pub mod laws;
-mod printing;
-mod rows;
-#[cfg(test)]
-mod tests;
-mod thin_jobs;
+mod opening;
+mod reader;
+mod source;
 mod tokens;
 mod words;
 
-pub use cursors::Thin;
-pub use printing::print_program;
-pub use rows::rows_bytes;
-pub use thin_jobs::read_thin;
+pub use opening::{Unopened, open_job};
+pub use reader::{ReadRefusal, read_program};
 pub use tokens::{Mark, Symbol, Tok};

@@ -1,0 +1,52 @@
+use Rattle.std.proofs.lemmas.Result.{err_from_is_err_and}
+use Rattle.kt_read.proofs.StatementSteps.{store_here, store_completes, fold_here, fold_value_completes, fold_completes}
+use Rattle.kt_read.proofs.Signs.{done_completes}
+use Rattle.kt_read.proofs.Still.{done, next_any, fails_any}
+use Rattle.kt_read.proofs.reader.statements.statement_behind_element.Goals as goal
+
+pub returns-in_err-expect : goal.returns-in_err-expect
+returns-in_err-expect c =
+    let s0 = store_here c.args.name c.args.place c.args.at _ (c.is.ensures.0 c.if-is.true) in
+    let p = err_from_is_err_and c.from_residual.result c.from_residual.ensures.1 in
+    rw (p.1, p.2) (fails_any _ _ s0 c.in_err-expect.ensures (λ x. store_completes c.args.name c.args.place c.args.at))
+
+pub returns-in_err-value : goal.returns-in_err-value
+returns-in_err-value c =
+    let s0 = store_here c.args.name c.args.place c.args.at _ (c.is.ensures.0 c.if-is.true) in
+    let s1 = next_any s0 c.in_ok-expect.ensures in
+    let p = err_from_is_err_and c.from_residual-in_err-value.result c.from_residual-in_err-value.ensures.1 in
+    rw (p.1, p.2) (fails_any _ _ s1 c.in_err-value.ensures (λ e. done_completes _))
+
+pub returns-then-is : goal.returns-then-is
+returns-then-is c =
+    let s0 = store_here c.args.name c.args.place c.args.at _ (c.is.ensures.0 c.if-is.true) in
+    let s1 = next_any s0 c.in_ok-expect.ensures in
+    done (next_any s1 c.in_ok-value.ensures)
+
+pub returns-in_err-op : goal.returns-in_err-op
+returns-in_err-op c =
+    let s0 = fold_here c.args.name c.args.place c.args.at _ (λ e. cc (c.is.ensures.1 e, c.if-is.false)) in
+    let p = err_from_is_err_and c.from_residual-in_err-op.result c.from_residual-in_err-op.ensures.1 in
+    rw (p.1, p.2) (fails_any _ _ s0 c.in_err-op.ensures (fold_completes c.args.name c.args.place c.args.at))
+
+pub returns-in_err-expect-2 : goal.returns-in_err-expect-2
+returns-in_err-expect-2 c =
+    let s0 = fold_here c.args.name c.args.place c.args.at _ (λ e. cc (c.is.ensures.1 e, c.if-is.false)) in
+    let s1 = next_any s0 c.in_ok-op.ensures in
+    let p = err_from_is_err_and c.from_residual-in_err-expect-2.result c.from_residual-in_err-expect-2.ensures.1 in
+    rw (p.1, p.2) (fails_any _ _ s1 c.in_err-expect-2.ensures (λ x. fold_value_completes c.args.name c.args.place c.args.at c.in_ok-op.op))
+
+pub returns-in_err-value-2 : goal.returns-in_err-value-2
+returns-in_err-value-2 c =
+    let s0 = fold_here c.args.name c.args.place c.args.at _ (λ e. cc (c.is.ensures.1 e, c.if-is.false)) in
+    let s1 = next_any s0 c.in_ok-op.ensures in
+    let s2 = next_any s1 c.in_ok-expect-2.ensures in
+    let p = err_from_is_err_and c.from_residual-in_err-value-2.result c.from_residual-in_err-value-2.ensures.1 in
+    rw (p.1, p.2) (fails_any _ _ s2 c.in_err-value-2.ensures (λ e. done_completes _))
+
+pub returns : goal.returns
+returns c =
+    let s0 = fold_here c.args.name c.args.place c.args.at _ (λ e. cc (c.is.ensures.1 e, c.if-is.false)) in
+    let s1 = next_any s0 c.in_ok-op.ensures in
+    let s2 = next_any s1 c.in_ok-expect-2.ensures in
+    done (next_any s2 c.in_ok-value-2.ensures)
