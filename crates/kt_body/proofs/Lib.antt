@@ -1,0 +1,14 @@
+pub mod Steps
+pub mod Ends
+pub mod Zeros
+pub mod Astray
+pub mod Names
+pub mod Writing
+pub mod Values
+pub mod Stmts
+pub mod Ranges
+pub mod Passing
+pub mod Objects
+pub mod Rooms
+pub mod Starting
+pub mod Rightful

@@ -1,0 +1,7 @@
+pub mod Doing
+pub mod Endings
+pub mod Moves
+pub mod Scenes
+pub mod Forking
+pub mod Starts
+pub mod Laws

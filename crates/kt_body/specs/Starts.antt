@@ -1,0 +1,31 @@
+-- What the names of a task stand for where its body starts, as the code has it.
+use Rattle.std.specs.Prelude.{◌≡◌, ◌≤◌, ℕ, ◌+◌, List, ◌++◌, false, drop, length}
+use Rattle.kt_law.specs.declared.limits.TheConstants.{DEFINITIONS, OBJECTS}
+use Rattle.kt_law.specs.declared.accesses.Access.{Access}
+use Rattle.kt_prog.specs.Calls.{CallTree}
+use Rattle.kt_prog.specs.Locals.{given}
+use Rattle.kt_prog.specs.Operations.{is_loop_at}
+use Rattle.kt_prog.specs.declared.programs.Param.{Param}
+use Rattle.kt_prog.specs.declared.programs.Program.{Program}
+use Rattle.kt_prog.specs.declared.scope.Local.{Local}
+use Rattle.kt_body.specs.Scenes.{AllSmall}
+use Rattle.kt_body.specs.declared.start.Start.{Start}
+
+-- a call of main or of a task, which is no loop's and no kernel's
+pub record IsTask (p : Program) (call : CallTree) : Type 0 where
+  pub no_loop : is_loop_at p call.task ≡ false
+  pub no_kernel : call.task ≤ DEFINITIONS
+
+abbrev pub StartsLow : Access → Type 0
+StartsLow a = a.lo ≤ OBJECTS
+
+-- each local stands for an int or an access of a call
+pub record IsPart (s : Start) (ints : List ℕ) (accesses : List Access) : Type 0 where
+  pub counted : length s.locals.items ≤ s.ints + s.accesses
+  pub ints_there : s.ints ≤ length ints
+  pub accesses_there : s.accesses ≤ length accesses
+  pub small : AllSmall s.locals.items
+
+-- all locals, where these parameters are still to be given what they take
+abbrev pub whole_start : Start → List Param → List ℕ → List Access → List Local
+whole_start s params ints accesses = s.locals.items ++ given params (drop s.ints ints) (drop s.accesses accesses)

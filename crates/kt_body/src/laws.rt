@@ -1,0 +1,7 @@
+//! Laws of what is next in a body. The functions do nothing; their contracts are the laws.
+ghost use Rattle.kt_body.specs.Laws.{NextIsRightful};
+
+/// What is next in a body of an accepted program keeps to the rights of its call.
+pub fn next_is_rightful()
+    ensures { NextIsRightful }
+{}

@@ -1,0 +1,23 @@
+//! The bodies of a program, run from its text on any object that does their operations.
+#![tactic(auto)]
+
+mod body;
+mod eval;
+mod exec;
+mod forks;
+pub mod laws;
+mod lookups;
+mod ops;
+mod passed;
+mod scene;
+mod start;
+mod targets;
+#[cfg(test)]
+mod tests;
+mod walk;
+mod writes;
+mod zero;
+
+pub use body::run_body;
+pub use ops::{Ended, Got, Ops, Went};
+pub use zero::run_zero;
