@@ -1,0 +1,217 @@
+-- What a body did on the owner is what it does alone.
+use Rattle.std.proofs.Common.{◌≡◌, ℕ, suc, ◌+◌, Bool, not, ◌||◌, nat_lt, List, [], ◌∷◌, ◌++◌, map, Option, Some, None, slice_index, slice_set, refl, sym, ap, ◌∙◌, subst}
+use Rattle.std.proofs.lemmas.List.{set-get_or}
+use Rattle.kt_law.specs.Acts.{Act, Deed, Load, Store, Fold}
+use Rattle.kt_law.specs.Operators.{fold_of}
+use Rattle.kt_order.specs.Body.{Stop, Do, Fork, Keeps}
+use Rattle.kt_order.specs.Machine.{Machine}
+use Rattle.kt_order.specs.Sequential.{Alone, alone}
+use Rattle.kt_prog.specs.Calls.{CallTree, Job, Whole, Index}
+use Rattle.kt_prog.specs.Script.{Fault, Script}
+use Rattle.kt_prog.specs.Objects.{first_element_of}
+use Rattle.kt_prog.specs.Operations.{trace}
+use Rattle.kt_prog.specs.Reference.{Placed, placed, machine_of}
+use Rattle.kt_prog.specs.declared.programs.Program.{Program}
+use Rattle.kt_prog.specs.declared.runs.Operation.{Operation}
+use Rattle.kt_prog.specs.declared.runs.Operation.TheVariants as O
+use Rattle.kt_body.specs.Endings.{WentThrough}
+use Rattle.kt_frames.specs.Stack.{Stack, pushed}
+use Rattle.kt_frames.specs.Rest.{EachCall}
+use Rattle.kt_frames.specs.Owned.{HasFirsts, Moves, place_in, stands_at, never}
+use Rattle.kt_frames.specs.declared.owner.Owner.{Owner}
+use Rattle.kt_frames.proofs.Rightful.{IsThere}
+
+abbrev pub Went : Owner → List Operation → Owner → Type 0
+Went = WentThrough stands_at Moves never
+
+-- a call of which G holds, and no index
+abbrev pub OfCall : (CallTree → Type 0) → Job → Type 0
+OfCall G (Whole call) = G call
+OfCall G (Index call i) = ⊥
+
+abbrev pub call_in : Job → CallTree
+call_in (Whole call) = call
+call_in (Index call i) = call
+
+abbrev pub calls_of : List Placed → List CallTree
+calls_of = map (λ c. call_in c.job)
+
+abbrev pub all_pushed : Stack → List CallTree → Stack
+all_pushed f [] = f
+all_pushed f (c ∷ cs) = all_pushed (pushed f c) cs
+
+abbrev pub over_all : Stack → Bool → List CallTree → Bool
+over_all f over [] = over
+over_all f over (c ∷ cs) = over_all (pushed f c) (over || not (nat_lt f.tasks f.room)) cs
+
+abbrev pub last_of : Option Fault → Operation
+last_of None = O.End
+last_of (Some f) = O.Fault f.law f.line
+
+abbrev pub IsLast : Operation → Type 0
+IsLast (O.Load object element a) = ⊥
+IsLast (O.Store object element v) = ⊥
+IsLast (O.Fold object element op v) = ⊥
+IsLast (O.Fork call) = ⊥
+IsLast O.End = Unit {0}
+IsLast (O.Fault law line) = Unit {0}
+
+-- calls with their paths, the first one the k-th of its parent's
+abbrev pub numbered : List ℕ → ℕ → List CallTree → List Placed
+numbered path k [] = []
+numbered path k (c ∷ cs) = record { path = path ++ k ∷ []; job = Whole c } ∷ numbered path (suc k) cs
+
+not_snoc : (xs : List Operation) (x : Operation) → [] ≡ xs ++ x ∷ [] → ⊥
+not_snoc [] x h = cc
+not_snoc (y ∷ xs) x h = cc
+
+not_last : (x last : Operation) → x ≡ last → IsLast last → IsLast x
+not_last x last e h = subst IsLast (sym e) h
+
+module _ (p : Program) where
+  abbrev m : Machine
+  m = machine_of p
+
+  -- the owner came from x to y as the body does alone
+  pub record Alike (x y : Owner) (a : Alone m) (last : Operation) : Type 0 where
+    pub store : y.store.items ≡ a.store
+    pub frames : y.frames ≡ all_pushed x.frames (calls_of a.forks)
+    pub over : y.over ≡ over_all x.frames x.over (calls_of a.forks)
+    pub firsts : y.firsts.items ≡ x.firsts.items
+    pub ends : last ≡ last_of a.fault
+
+  alike_stop : (f : Option Fault) (path : List ℕ) (k : ℕ) (heard : List ℕ) (done : List Operation) (last : Operation) (x y : Owner)
+      → last_of f ∷ [] ≡ done ++ last ∷ [] → Went x done y → Alike x y (alone m (placed path k (Stop f)) x.store.items) last
+  alike_stop f path k heard [] last x y e w =
+      let same : last_of f ≡ last = cc in
+      record {
+        store = ap (λ (o : Owner). o.store.items) (sym w);
+        frames = ap (λ (o : Owner). o.frames) (sym w);
+        over = ap (λ (o : Owner). o.over) (sym w);
+        firsts = ap (λ (o : Owner). o.firsts.items) (sym w);
+        ends = sym same;
+      }
+  alike_stop f path k heard (d ∷ done) last x y e w = let none : [] ≡ done ++ last ∷ [] = cc in absurd (not_snoc done last none)
+
+  alike_do : (x z y : Owner) (act : Act) (next : ℕ → Script) (path : List ℕ) (k found : ℕ) (last : Operation) → m.answer act x.store.items ≡ found
+      → m.after act x.store.items ≡ z.store.items → z.frames ≡ x.frames → z.over ≡ x.over → z.firsts.items ≡ x.firsts.items
+      → Alike z y (alone m (placed path k (next found)) z.store.items) last → Alike x y (alone m (placed path k (Do act next)) x.store.items) last
+  alike_do x z y act next path k found last answers stores frames over firsts ih =
+      let run : ℕ → List ℕ → Alone m = λ a s. alone m (placed path k (next a)) s in
+      let moved : Alike z y (run (m.answer act x.store.items) (m.after act x.store.items)) last =
+      subst (λ (s : List ℕ). Alike z y (run (m.answer act x.store.items) s) last) (sym stores)
+      (subst (λ (a : ℕ). Alike z y (run a z.store.items) last) (sym answers) ih) in
+      let cs = calls_of (run (m.answer act x.store.items) (m.after act x.store.items)).forks in
+      record {
+        store = moved.store;
+        frames = moved.frames ∙ ap (λ (f : Stack). all_pushed f cs) frames;
+        over = moved.over ∙ ap (λ (f : Stack). over_all f z.over cs) frames ∙ ap (λ (b : Bool). over_all x.frames b cs) over;
+        firsts = moved.firsts ∙ firsts;
+        ends = moved.ends;
+      }
+
+  alike_fork : (x z y : Owner) (c : CallTree) (next : Script) (path : List ℕ) (k : ℕ) (last : Operation) → Moves x (O.Fork c) z
+      → Alike z y (alone m (placed path (suc k) next) z.store.items) last
+      → Alike x y (alone m (placed path k (Fork (Whole c) next)) x.store.items) last
+  alike_fork x z y c next path k last g ih =
+      let moved = subst (λ (s : List ℕ). Alike z y (alone m (placed path (suc k) next) s) last) g.store ih in
+      let cs = calls_of (alone m (placed path (suc k) next) x.store.items).forks in
+      record {
+        store = moved.store;
+        frames = moved.frames ∙ ap (λ (f : Stack). all_pushed f cs) g.frames;
+        over = moved.over ∙ ap (λ (f : Stack). over_all f z.over cs) g.frames ∙ ap (λ (b : Bool). over_all (pushed x.frames c) b cs) g.over;
+        firsts = moved.firsts ∙ g.firsts;
+        ends = moved.ends;
+      }
+
+  module _ (G : CallTree → Type 0) (last : Operation) (is_last : IsLast last) where
+    abbrev Kept : Script → Type 0
+    Kept = Keeps (IsThere p.families) (OfCall G)
+
+    abbrev Goal : Script → Type 0
+    Goal s = (path : List ℕ) (k : ℕ) (heard : List ℕ) (done : List Operation) (x y : Owner) → HasFirsts p.families x.firsts.items
+        → trace (O.End ∷ []) s heard ≡ done ++ last ∷ [] → Went x done y → Alike x y (alone m (placed path k s) x.store.items) last
+
+    firsts_on : (x z : Owner) → z.firsts.items ≡ x.firsts.items → HasFirsts p.families x.firsts.items → HasFirsts p.families z.firsts.items
+    firsts_on x z e h = subst (HasFirsts p.families) (sym e) h
+
+    act_alike : (object element : ℕ) (deed : Deed) (next : ℕ → Script) → IsThere p.families (record { object = object; element = element; deed = deed })
+        → ((a : ℕ) → Goal (next a)) → Goal (Do (record { object = object; element = element; deed = deed }) next)
+    act_alike object element Load next there more path k [] done x y firsts e w = absurd (not_snoc done last e)
+    act_alike object element Load next there more path k (a ∷ heard) [] x y firsts e w =
+        let same : O.Load object element a ≡ last = cc in absurd (not_last (O.Load object element a) last same is_last)
+    act_alike object element Load next there more path k (a ∷ heard) (d ∷ done) x y firsts e w =
+        let same : O.Load object element a ≡ d = cc in
+        let rest : trace (O.End ∷ []) (next a) heard ≡ done ++ last ∷ [] = cc in
+        let g : Moves x (O.Load object element a) w.0 = subst (λ (op : Operation). Moves x op w.0) (sym same) w.1 in
+        let first = firsts.each object there.0 in
+        let place : place_in x.firsts.items object element ≡ first_element_of p.families object + element = ap (λ (n : ℕ). n + element) first in
+        let s = x.store.items in
+        let at = first_element_of p.families object + element in
+        let answers : slice_index s at ≡ a = sym (g.found ∙ ap (slice_index s) place) in
+        let stores : slice_set s at (slice_index s at) ≡ w.0.store.items = set-get_or s at 0 ∙ sym g.store in
+        alike_do x w.0 y (record { object = object; element = element; deed = Load }) next path k a last answers stores g.frames g.over g.firsts
+        (more a path k heard done w.0 y (firsts_on x w.0 g.firsts firsts) rest w.2)
+    act_alike object element (Store v) next there more path k heard [] x y firsts e w =
+        let same : O.Store object element v ≡ last = cc in absurd (not_last (O.Store object element v) last same is_last)
+    act_alike object element (Store v) next there more path k heard (d ∷ done) x y firsts e w =
+        let same : O.Store object element v ≡ d = cc in
+        let rest : trace (O.End ∷ []) (next 0) heard ≡ done ++ last ∷ [] = cc in
+        let g : Moves x (O.Store object element v) w.0 = subst (λ (op : Operation). Moves x op w.0) (sym same) w.1 in
+        let first = firsts.each object there.0 in
+        let place : first_element_of p.families object + element ≡ place_in x.firsts.items object element = ap (λ (n : ℕ). n + element) (sym first) in
+        let stores : slice_set x.store.items (first_element_of p.families object + element) v ≡ w.0.store.items =
+        ap (λ (at : ℕ). slice_set x.store.items at v) place ∙ sym g.store in
+        alike_do x w.0 y (record { object = object; element = element; deed = Store v }) next path k 0 last refl stores g.frames g.over g.firsts
+        (more 0 path k heard done w.0 y (firsts_on x w.0 g.firsts firsts) rest w.2)
+    act_alike object element (Fold op v) next there more path k heard [] x y firsts e w =
+        let same : O.Fold object element op v ≡ last = cc in absurd (not_last (O.Fold object element op v) last same is_last)
+    act_alike object element (Fold op v) next there more path k heard (d ∷ done) x y firsts e w =
+        let same : O.Fold object element op v ≡ d = cc in
+        let rest : trace (O.End ∷ []) (next 0) heard ≡ done ++ last ∷ [] = cc in
+        let g : Moves x (O.Fold object element op v) w.0 = subst (λ (o : Operation). Moves x o w.0) (sym same) w.1 in
+        let first = firsts.each object there.0 in
+        let place : first_element_of p.families object + element ≡ place_in x.firsts.items object element = ap (λ (n : ℕ). n + element) (sym first) in
+        let s = x.store.items in
+        let stores : slice_set s (first_element_of p.families object + element) (fold_of op (slice_index s (first_element_of p.families object + element)) v) ≡ w.0.store.items =
+        ap (λ (at : ℕ). slice_set s at (fold_of op (slice_index s at) v)) place ∙ sym g.store in
+        alike_do x w.0 y (record { object = object; element = element; deed = Fold op v }) next path k 0 last refl stores g.frames g.over g.firsts
+        (more 0 path k heard done w.0 y (firsts_on x w.0 g.firsts firsts) rest w.2)
+
+    pub goes_alike : (s : Script) → Kept s → Goal s
+    goes_alike (Stop None) h path k heard done x y firsts e w = alike_stop None path k heard done last x y e w
+    goes_alike (Stop (Some f)) h path k heard done x y firsts e w = alike_stop (Some f) path k heard done last x y e w
+    goes_alike (Do act next) h path k heard done x y firsts e w =
+        act_alike act.object act.element act.deed next h.0 (λ a. goes_alike (next a) (h.1 a)) path k heard done x y firsts e w
+    goes_alike (Fork (Index c i) next) h path k heard done x y firsts e w = absurd h.0
+    goes_alike (Fork (Whole c) next) h path k heard [] x y firsts e w =
+        let same : O.Fork c ≡ last = cc in absurd (not_last (O.Fork c) last same is_last)
+    goes_alike (Fork (Whole c) next) h path k heard (d ∷ done) x y firsts e w =
+        let same : O.Fork c ≡ d = cc in
+        let rest : trace (O.End ∷ []) next heard ≡ done ++ last ∷ [] = cc in
+        let g : Moves x (O.Fork c) w.0 = subst (λ (o : Operation). Moves x o w.0) (sym same) w.1 in
+        alike_fork x w.0 y c next path k last g (goes_alike next h.1 path (suc k) heard done w.0 y (firsts_on x w.0 g.firsts firsts) rest w.2)
+
+  -- what a body forks alone
+  module _ (D : Act → Type 0) (G : CallTree → Type 0) where
+    pub forks_numbered : (s : Script) → Keeps D (OfCall G) s → (path : List ℕ) (k : ℕ) (store : List ℕ)
+        → (alone m (placed path k s) store).forks ≡ numbered path k (calls_of (alone m (placed path k s) store).forks)
+    forks_numbered (Stop f) h path k store = refl
+    forks_numbered (Do act next) h path k store = forks_numbered (next (m.answer act store)) (h.1 (m.answer act store)) path k (m.after act store)
+    forks_numbered (Fork (Index c i) next) h path k store = absurd h.0
+    forks_numbered (Fork (Whole c) next) h path k store =
+        ap (λ (cs : List Placed). record { path = path ++ k ∷ []; job = Whole c } ∷ cs) (forks_numbered next h.1 path (suc k) store)
+
+    pub forks_each : (s : Script) → Keeps D (OfCall G) s → (path : List ℕ) (k : ℕ) (store : List ℕ)
+        → EachCall G (calls_of (alone m (placed path k s) store).forks)
+    forks_each (Stop f) h path k store = tt
+    forks_each (Do act next) h path k store = forks_each (next (m.answer act store)) (h.1 (m.answer act store)) path k (m.after act store)
+    forks_each (Fork (Index c i) next) h path k store = absurd h.0
+    forks_each (Fork (Whole c) next) h path k store = (h.0, forks_each next h.1 path (suc k) store)
+
+-- two things that a body keeps to, as one
+pub keeps_both : (D E : Act → Type 0) (H K M : Job → Type 0) → ((act : Act) → D act → E act) → ((job : Job) → H job → K job → M job)
+    → (F : Act → Type 0) (s : Script) → Keeps D H s → Keeps F K s → Keeps E M s
+keeps_both D E H K M f g F (Stop x) h k = tt
+keeps_both D E H K M f g F (Do act next) h k = (f act h.0, λ a. keeps_both D E H K M f g F (next a) (h.1 a) (k.1 a))
+keeps_both D E H K M f g F (Fork job next) h k = (g job h.0 k.0, keeps_both D E H K M f g F next h.1 k.1)

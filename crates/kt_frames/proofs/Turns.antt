@@ -1,0 +1,445 @@
+-- How the run stands between two tasks.
+use Rattle.std.proofs.Common.{◌≡◌, ◌≤◌, ◌<◌, ℕ, zero, suc, ◌+◌, ◌-◌, Bool, true, false, nat_lt, List, [], ◌∷◌, ◌++◌, length, Option, Some, None, refl, sym, ap, ◌∙◌, subst, arith, length-set, append-nil, slice_index}
+use Rattle.std.proofs.lemmas.Bool.Decides.{nat_tests}
+use Rattle.std.proofs.lemmas.Option.{slice_get_within}
+use Rattle.kt_law.specs.declared.limits.TheConstants.{DEFINITIONS, DEPTH, TASKS}
+use Rattle.kt_law.specs.declared.faults.F.{F}
+use Rattle.kt_order.specs.Body.{Keeps}
+use Rattle.kt_order.specs.Machine.{Machine}
+use Rattle.kt_order.specs.Sequential.{Run, Alone, Entry, alone, still_at, whole}
+use Rattle.kt_prog.specs.Accepted.{IsAccepted}
+use Rattle.kt_prog.specs.Calls.{CallTree, Job, Whole, Index}
+use Rattle.kt_prog.specs.Script.{Fault}
+use Rattle.kt_prog.specs.Bodies.{script_of, index_in, task_at}
+use Rattle.kt_prog.specs.Entries.{tasks_of, indexes_of, faults_of}
+use Rattle.kt_prog.specs.Outcome.{answered, outcome_of}
+use Rattle.kt_prog.specs.Fits.{Fits, is_main, is_call, target_at, task_target}
+use Rattle.kt_prog.specs.Objects.{inputs_of}
+use Rattle.kt_prog.specs.Operations.{operations, end_of, is_loop_at, trace}
+use Rattle.kt_prog.specs.Reference.{placed, machine_of, main_placed, opened_with, reference}
+use Rattle.kt_prog.specs.Rights.{Directly, Forks}
+use Rattle.kt_prog.specs.Runs.{FaultRun}
+use Rattle.kt_prog.specs.Targets.{Target, is_loop_of}
+use Rattle.kt_prog.specs.declared.programs.Program.{Program}
+use Rattle.kt_prog.specs.declared.programs.Task.{Task}
+use Rattle.kt_prog.specs.declared.runs.Outcome.TheVariants as N
+use Rattle.kt_prog.specs.declared.runs.Operation.{Operation}
+use Rattle.kt_prog.specs.declared.runs.Operation.TheVariants as O
+use Rattle.kt_prog.proofs.Plain.{plain}
+use Rattle.kt_prog.proofs.Targets.{task_of}
+use Rattle.kt_prog.proofs.LastWriter.{opened_length}
+use Rattle.kt_body.specs.Endings.{Begins, EndsSo, answers_of}
+use Rattle.kt_body.specs.declared.ops.Ended.{Ended}
+use Rattle.kt_body.specs.declared.ops.Ended.TheVariants as E
+use Rattle.kt_frames.specs.OnlyTasks.{HasOnlyTasks}
+use Rattle.kt_frames.specs.Owned.{HasFirsts, Moves, stands_at, never, place_in, store_after}
+use Rattle.kt_law.specs.Operators.{fold_of}
+use Rattle.kt_frames.specs.Rest.{EachCall, IsCallAt, GoodStack, waiting, waiting_below, rest_of, rest_below, answered_from, least_with, fault_of, IsLive, left, to_do, limit_ran, ended_ran, Finishes, stays, more, with_frames, IsClaimed, TurnIs}
+use Rattle.kt_frames.specs.declared.owner.Turn.{Turn}
+use Rattle.kt_frames.specs.declared.owner.Turn.TheVariants as T
+use Rattle.kt_frames.specs.Stack.{Frame, Stack, opened, IsRunning, begun, begun_at, next_of, entry_path, path_over, finished_to}
+use Rattle.kt_frames.specs.declared.owner.Owner.{Owner}
+use Rattle.kt_frames.proofs.Layouts.{ended_none}
+use Rattle.kt_frames.proofs.Forking.{Free, both}
+use Rattle.kt_frames.proofs.TaskBodies.{NoKernel, forks_no_kernel, of_task, no_index, OfTask}
+use Rattle.kt_frames.proofs.Rightful.{IsThere, act_there}
+use Rattle.kt_frames.proofs.Alike.{OfCall, Alike, Went, goes_alike, forks_numbered, forks_each, calls_of, all_pushed, over_all, keeps_both, last_of, numbered, IsLast}
+use Rattle.kt_frames.proofs.Rests.{Fitting, pushed_fit, pushed_over, with_children, rest_ended, rest_begun, rest_count, answered_noted, answered_limit, answered_still, good_at, fits_deep}
+
+absurd_cons : (f : Frame) (below : List Frame) → f ∷ below ≡ [] → ⊥
+absurd_cons f below e = cc
+
+-- what one finish keeps
+record Kin (p : Program) (s t : Stack) : Type 0 where
+  pub good : GoodStack p s → GoodStack p t
+  pub waits : waiting s ≡ waiting t
+  pub tasks : s.tasks ≡ t.tasks
+  pub room : s.room ≡ t.room
+  pub rest : (store : List ℕ) → rest_of p s store ≡ rest_of p t store
+
+kin_finished : (p : Program) (top : Frame) (below : List Frame) (tasks room : ℕ)
+    → let s : Stack = record { top = top; below = below; tasks = tasks; room = room } in
+    (below ≡ [] → ⊥) → next_of s ≡ None → Kin p s (finished_to below s)
+kin_finished p top [] tasks room runs none = absurd (runs refl)
+kin_finished p top (f ∷ below) tasks room runs none =
+    let long = ended_none top.calls top.finished none in
+    let s : Stack = record { top = top; below = f ∷ below; tasks = tasks; room = room } in
+    let gone : length top.calls - top.finished ≡ 0 = omega arith in
+    record {
+      good = λ g. record { top = g.below.0; below = g.below.2 };
+      waits = omega arith;
+      tasks = refl;
+      room = refl;
+      rest = λ store. rest_ended p s store long;
+    }
+
+kin_all : (p : Program) (s t : Stack) → Finishes s t → Kin p s t
+kin_all p s _ stays = record { good = λ g. g; waits = refl; tasks = refl; room = refl; rest = λ store. refl }
+kin_all p s t (more {t = u} h runs none) =
+    let one = kin_all p s u h in
+    let two = kin_finished p u.top u.below u.tasks u.room runs none in
+    record {
+      good = λ g. two.good (one.good g);
+      waits = one.waits ∙ two.waits;
+      tasks = one.tasks ∙ two.tasks;
+      room = one.room ∙ two.room;
+      rest = λ store. one.rest store ∙ two.rest store;
+    }
+
+-- no operation makes the store longer or shorter
+store_long : (firsts : List ℕ) (op : Operation) (s : List ℕ) → length (store_after firsts op s) ≡ length s
+store_long firsts (O.Load object element a) s = refl
+store_long firsts (O.Store object element v) s = length-set s (place_in firsts object element) v
+store_long firsts (O.Fold object element op v) s =
+    length-set s (place_in firsts object element) (fold_of op (slice_index s (place_in firsts object element)) v)
+store_long firsts (O.Fork call) s = refl
+store_long firsts O.End s = refl
+store_long firsts (O.Fault law line) s = refl
+
+went_long : (done : List Operation) (x y : Owner) → Went x done y → length y.store.items ≡ length x.store.items
+went_long [] x y w = ap (λ (o : Owner). length o.store.items) (sym w)
+went_long (op ∷ done) x y w =
+    went_long done w.0 y w.2 ∙ ap length w.1.store ∙ store_long x.firsts.items op x.store.items
+
+-- a claimed call is that of main or of a task
+module _ (p : Program) (ok : IsAccepted p) (only : HasOnlyTasks p) where
+  abbrev m : Machine
+  m = machine_of p
+
+  no_target : (t : Target) → target_at p.tasks 0 ≡ Some t → ⊥
+  no_target t h = cc
+
+  tasks_only : (k : ℕ) → OfTask (task_at p.tasks k)
+  tasks_only k = of_task p.tasks k (both _ _ only).0
+
+  task_no_loop : (x : Option Task) (t : Task) → OfTask x → x ≡ Some t → t.index ≡ None
+  task_no_loop None t h e = cc
+  task_no_loop (Some u) t h e =
+      let same : u ≡ t = cc in
+      let index = no_index u.index (both _ _ h).0 in
+      subst (λ (y : Task). y.index ≡ None) same index
+
+  target_no_loop : (call : CallTree) (n : ℕ) (t : Target) → n ≤ DEFINITIONS → target_at p.tasks n ≡ Some t → t.is_loop ≡ false
+  target_no_loop call zero t le is = absurd (no_target t is)
+  target_no_loop call (suc k) t le is =
+      let test : nat_lt k DEFINITIONS ≡ true = grind (arith, nat_tests) in
+      let found : task_target p.tasks 1 k ≡ Some t = sym (rw test refl) ∙ is in
+      let u = task_of p.tasks 1 k t found in
+      ap (λ (x : Target). x.is_loop) u.is ∙ ap is_loop_of (task_no_loop (task_at p.tasks k) u.task (tasks_only k) u.at)
+
+  no_length : (call : CallTree) → Fits p call → call.task ≤ DEFINITIONS → call.length ≡ 0
+  no_length call (is_main e) le = ap (λ (c : CallTree). c.length) e
+  no_length call (is_call t is fits) le = fits.formed (target_no_loop call call.task t le is)
+
+  index_none : (x : Option Task) → OfTask x → index_in x ≡ None
+  index_none None h = refl
+  index_none (Some t) h = no_index t.index (both _ _ h).0
+
+  pub no_loop : (n : ℕ) → n ≤ DEFINITIONS → is_loop_at p n ≡ false
+  no_loop zero le = refl
+  no_loop (suc k) le =
+      let test : nat_lt k DEFINITIONS ≡ true = grind (arith, nat_tests) in
+      rw (test, index_none (task_at p.tasks k) (tasks_only k)) refl
+
+  -- what the body of a call at this depth does and forks
+  call_keeps : (depth : ℕ) (call : CallTree) → IsCallAt p depth call
+      → Keeps (IsThere p.families) (OfCall (IsCallAt p (suc depth))) (script_of p (Whole call))
+  call_keeps depth call is =
+      keeps_both (Directly p (Whole call)) (IsThere p.families) (Forks p (Whole call)) NoKernel (OfCall (IsCallAt p (suc depth)))
+      (act_there p ok (Whole call)) forked Free (script_of p (Whole call)) (plain (λ w. w) p ok (Whole call) is.0)
+      (forks_no_kernel p ok only call is.2)
+    where
+      forked : (job : Job) → Forks p (Whole call) job → NoKernel job → OfCall (IsCallAt p (suc depth)) job
+      forked (Whole child) h k = (h.fits, h.deeper ∙ ap suc is.1, k)
+      forked (Index loop i) h k = let none = no_length call is.0 is.2 in let lt = h.1 in absurd (omega arith)
+
+  -- the body of a claimed task is done as it is alone
+  pub record Body (x y : Owner) (path : List ℕ) (depth : ℕ) (call : CallTree) (ended : Ended) (cs : List CallTree) : Type 0 where
+    pub last : Operation
+    pub alike : Alike p x y (alone m (placed path 1 (script_of p (Whole call))) x.store.items) last
+    pub calls : cs ≡ calls_of (alone m (placed path 1 (script_of p (Whole call))) x.store.items).forks
+    pub forks : (alone m (placed path 1 (script_of p (Whole call))) x.store.items).forks ≡ numbered path 1 cs
+    pub each : EachCall (IsCallAt p (suc depth)) cs
+    pub fault : (alone m (placed path 1 (script_of p (Whole call))) x.store.items).fault ≡ fault_of ended
+    pub long : length y.store.items ≡ length x.store.items
+
+  body_with : (x y : Owner) (path : List ℕ) (depth : ℕ) (call : CallTree) (ended : Ended) (done : List Operation) (last : Operation)
+      → IsCallAt p depth call → HasFirsts p.families x.firsts.items → IsLast last
+      → operations p (Whole call) (answers_of done) ≡ done ++ last ∷ [] → Went x done y
+      → ((f : Option Fault) → last ≡ last_of f → f ≡ fault_of ended)
+      → Body x y path depth call ended (calls_of (alone m (placed path 1 (script_of p (Whole call))) x.store.items).forks)
+  body_with x y path depth call ended done last is firsts is_last e w faults =
+      let kept = call_keeps depth call is in
+      let s = script_of p (Whole call) in
+      let end : end_of p (Whole call) ≡ O.End ∷ [] = rw (no_loop call.task is.2) refl in
+      let traced : trace (O.End ∷ []) s (answers_of done) ≡ done ++ last ∷ [] =
+      subst (λ (ops : List Operation). trace ops s (answers_of done) ≡ done ++ last ∷ []) end e in
+      let alike = goes_alike p (IsCallAt p (suc depth)) last is_last s kept path 1 (answers_of done) done x y firsts traced w in
+      record {
+        last = last;
+        alike = alike;
+        calls = refl;
+        forks = forks_numbered p (IsThere p.families) (IsCallAt p (suc depth)) s kept path 1 x.store.items;
+        each = forks_each p (IsThere p.families) (IsCallAt p (suc depth)) s kept path 1 x.store.items;
+        fault = faults (alone m (placed path 1 s) x.store.items).fault alike.ends;
+        long = went_long done x y w;
+      }
+
+  end_none : (f : Option Fault) → O.End ≡ last_of f → f ≡ None
+  end_none None e = refl
+  end_none (Some f) e = cc
+
+  fault_some : (law : F) (line : ℕ) (f : Option Fault) → O.Fault law line ≡ last_of f → f ≡ Some (record { law = law; line = line })
+  fault_some law line None e = cc
+  fault_some law line (Some f) e =
+      let same : law ≡ f.law = cc in
+      let place : line ≡ f.line = cc in
+      rw (same, place) refl
+
+  pub body_done : (x y : Owner) (path : List ℕ) (depth : ℕ) (call : CallTree) (ended : Ended) → IsCallAt p depth call
+      → HasFirsts p.families x.firsts.items → EndsSo stands_at Moves never p (Whole call) x y ended
+      → Body x y path depth call ended (calls_of (alone m (placed path 1 (script_of p (Whole call))) x.store.items).forks)
+  body_done x y path depth call E.Done is firsts e = body_with x y path depth call E.Done e.0 O.End is firsts tt e.1 e.2.went end_none
+  body_done x y path depth call (E.Fault law line) is firsts e =
+      body_with x y path depth call (E.Fault law line) e.0 (O.Fault law line) is firsts tt e.1 e.2.went (fault_some law line)
+  body_done x y path depth call E.Halted is firsts e = absurd e.5.at_halt
+
+  -- the children of the body stand in a frame over its task's
+  abbrev opened_over : Stack → List CallTree → Stack
+  opened_over s cs = record { top = record { calls = cs; finished = 0 }; below = s.top ∷ s.below; tasks = s.tasks + length cs; room = s.room }
+
+  begun_over : (s : Stack) (call : CallTree) (cs : List CallTree) → next_of s ≡ Some call → with_children (begun s) cs ≡ opened_over s cs
+  begun_over s call cs next = ap (λ (o : Option CallTree). with_children (begun_at o s) cs) next
+
+  claimed_over : (x : Owner) (s : Stack) (call : CallTree) → IsClaimed p x s call → x.frames ≡ opened_over s []
+  claimed_over x s call h =
+      let none : s.tasks + 0 ≡ s.tasks = omega arith in
+      h.frames ∙ ap (λ (o : Option CallTree). begun_at o s) h.next
+      ∙ ap (λ (n : ℕ). let t : Stack = record { top = record { calls = []; finished = 0 }; below = s.top ∷ s.below; tasks = n; room = s.room } in t) (sym none)
+
+  waits_more : (s : Stack) (call : CallTree) (cs : List CallTree) → next_of s ≡ Some call
+      → (waiting (opened_over s cs) + 1 ≡ waiting s + length cs) × (1 ≤ waiting s)
+  waits_more s call cs next =
+      let lt = slice_get_within s.top.calls s.top.finished call next in
+      (omega arith, omega arith)
+
+  claimed_at : (x : Owner) (s : Stack) (call : CallTree) → IsClaimed p x s call → IsCallAt p (length s.below) call
+  claimed_at x s call h = good_at p (length s.below) s.top.calls s.top.finished call h.live.good.top h.next
+
+  pub task_on : (x : Owner) (s : Stack) (call : CallTree) → IsClaimed p x s call → (is_loop_at p call.task ≡ false) × (call.task ≤ DEFINITIONS)
+  task_on x s call h = let at = claimed_at x s call h in (no_loop call.task at.2, at.2)
+
+  pub begins : (x : Owner) (s : Stack) (call : CallTree) → IsClaimed p x s call → Begins stands_at Moves never p (Whole call) x
+  begins x s call h = record {
+    accepted = ok;
+    fits = (claimed_at x s call h).0;
+    stands = record {
+      firsts = h.live.firsts;
+      full = h.live.full;
+      running = subst IsRunning (sym (claimed_over x s call h)) (λ e. let bad : ⊥ = absurd_cons s.top s.below e in bad);
+    };
+    running = λ n. n;
+  }
+
+  module _ (x y : Owner) (s : Stack) (call : CallTree) (ended : Ended) (least : Option FaultRun) (h : IsClaimed p x s call)
+      (e : EndsSo stands_at Moves never p (Whole call) x y ended) where
+    abbrev path : List ℕ
+    path = entry_path s.below (suc s.top.finished)
+
+    abbrev a : Alone m
+    a = alone m (placed path 1 (script_of p (Whole call))) x.store.items
+
+    abbrev cs : List CallTree
+    cs = calls_of a.forks
+
+    abbrev ran : ℕ
+    ran = s.tasks - waiting s
+
+    body : Body x y path (length s.below) call ended cs
+    body = body_done x y path (length s.below) call ended (claimed_at x s call h) h.live.firsts e
+
+    -- the run from here is the body and what is left behind it
+    run_on : left p (with_frames x s) least ≡ answered_from p (least_with least path (fault_of ended)) (suc ran) (rest_of p (opened_over s cs) a.store)
+    run_on =
+        ap (answered_from p least ran) (rest_begun p s call x.store.items cs h.live.good h.next body.forks body.each)
+        ∙ answered_noted p least ran path call a.answers a.fault a.steps (rest_of p (with_children (begun s) cs) a.store)
+        ∙ ap (λ (t : Stack). answered_from p (least_with least path a.fault) (suc ran) (rest_of p t a.store)) (begun_over s call cs h.next)
+        ∙ ap (λ (f : Option Fault). answered_from p (least_with least path f) (suc ran) (rest_of p (opened_over s cs) a.store)) body.fault
+
+    over_is : y.over ≡ over_all (opened_over s []) false cs
+    over_is =
+        body.alike.over ∙ ap (λ (f : Stack). over_all f x.over cs) (claimed_over x s call h)
+        ∙ ap (λ (b : Bool). over_all (opened_over s []) b cs) h.live.kept
+
+    few : (opened_over s []).tasks ≤ s.room
+    few = let le = h.live.few in omega arith
+
+    pub too_many : y.over ≡ true → left p (with_frames x s) least ≡ limit_ran
+    too_many o =
+        let over = pushed_over (opened_over s []) cs few (sym over_is ∙ o) in
+        let waits = waits_more s call cs h.next in
+        let count = rest_count p (opened_over s cs) a.store in
+        let room = h.live.room in
+        let counted = h.live.counted in
+        let more : TASKS < suc ran + length (tasks_of p (rest_of p (opened_over s cs) a.store).entries) = omega arith in
+        run_on ∙ answered_limit p (least_with least path (fault_of ended)) (suc ran) (rest_of p (opened_over s cs) a.store) more
+
+    module _ (o : y.over ≡ false) where
+      fit : Fitting (opened_over s []) cs
+      fit = pushed_fit (opened_over s []) cs few (sym over_is ∙ o)
+
+      pub frames_are : y.frames ≡ opened_over s cs
+      frames_are =
+          let count : (s.tasks + 0) + length cs ≡ s.tasks + length cs = omega arith in
+          body.alike.frames ∙ ap (λ (f : Stack). all_pushed f cs) (claimed_over x s call h) ∙ fit.frames
+          ∙ ap (λ (n : ℕ). let t : Stack = record { top = record { calls = cs; finished = 0 }; below = s.top ∷ s.below; tasks = n; room = s.room } in t) count
+
+      pub live_on : IsLive p y
+      live_on =
+          let waits = waits_more s call cs h.next in
+          let room = fit.room in
+          let counted = h.live.counted in
+          let good : GoodStack p (opened_over s cs) = record {
+            top = body.each;
+            below = (h.live.good.top, slice_get_within s.top.calls s.top.finished call h.next, h.live.good.below);
+          } in
+          let enough : s.tasks + length cs ≤ s.room = omega arith in
+          let waiting_few : waiting (opened_over s cs) ≤ s.tasks + length cs = omega arith in
+          record {
+            firsts = subst (HasFirsts p.families) (sym body.alike.firsts) h.live.firsts;
+            full = body.long ∙ h.live.full;
+            good = subst (GoodStack p) (sym frames_are) good;
+            kept = o;
+            room = ap (λ (t : Stack). t.room) frames_are ∙ h.live.room;
+            few = subst (λ (t : Stack). t.tasks ≤ t.room) (sym frames_are) enough;
+            counted = subst (λ (t : Stack). waiting t ≤ t.tasks) (sym frames_are) waiting_few;
+          }
+
+      pub below_short : length y.frames.below ≤ DEPTH + 1
+      below_short =
+          let at = claimed_at x s call h in
+          let deep = fits_deep p call at.0 in
+          let depth = at.1 in
+          let less : suc (length s.below) ≤ DEPTH + 1 = omega arith in
+          subst (λ (t : Stack). length t.below ≤ DEPTH + 1) (sym frames_are) less
+
+      pub path_on : path_over y.frames.below ≡ path
+      path_on = ap (λ (t : Stack). path_over t.below) frames_are
+
+      pub left_on : left p y (least_with least path (fault_of ended)) ≡ left p (with_frames x s) least
+      left_on =
+          let waits = waits_more s call cs h.next in
+          let counted = h.live.counted in
+          let count : (s.tasks + length cs) - waiting (opened_over s cs) ≡ suc ran = omega arith in
+          let l = least_with least path (fault_of ended) in
+          ap (λ (t : Stack). answered_from p l (t.tasks - waiting t) (rest_of p t y.store.items)) frames_are
+          ∙ ap (λ (store : List ℕ). answered_from p l ((s.tasks + length cs) - waiting (opened_over s cs)) (rest_of p (opened_over s cs) store)) body.alike.store
+          ∙ ap (λ (n : ℕ). answered_from p l n (rest_of p (opened_over s cs) a.store)) count
+          ∙ sym run_on
+
+      pub less_to_do : to_do y < to_do (with_frames x s)
+      less_to_do =
+          let waits = waits_more s call cs h.next in
+          let room = fit.room in
+          let less : (s.room - (s.tasks + length cs)) + waiting (opened_over s cs) < (s.room - s.tasks) + waiting s = omega arith in
+          subst (λ (t : Stack). (t.room - t.tasks) + waiting t < (s.room - s.tasks) + waiting s) (sym frames_are) less
+
+-- finished tasks change nothing of what is left
+pub live_finished : (p : Program) (o : Owner) (t : Stack) → Finishes o.frames t → IsLive p o → IsLive p (with_frames o t)
+live_finished p o t f h =
+    let k = kin_all p o.frames t f in
+    let waits = k.waits in
+    let tasks = k.tasks in
+    let room = k.room in
+    let few = h.few in
+    let counted = h.counted in
+    record {
+      firsts = h.firsts;
+      full = h.full;
+      good = k.good h.good;
+      kept = h.kept;
+      room = sym room ∙ h.room;
+      few = omega arith;
+      counted = omega arith;
+    }
+
+pub left_finished : (p : Program) (o : Owner) (t : Stack) (least : Option FaultRun) → Finishes o.frames t → left p (with_frames o t) least ≡ left p o least
+left_finished p o t least f =
+    let k = kin_all p o.frames t f in
+    ap (λ (n : ℕ). answered_from p least (n - waiting t) (rest_of p t o.store.items)) (sym k.tasks)
+    ∙ ap (λ (n : ℕ). answered_from p least (o.frames.tasks - n) (rest_of p t o.store.items)) (sym k.waits)
+    ∙ ap (λ (r : Run (machine_of p)). answered_from p least (o.frames.tasks - waiting o.frames) r) (sym (k.rest o.store.items))
+
+pub to_do_finished : (p : Program) (o : Owner) (t : Stack) → Finishes o.frames t → to_do (with_frames o t) ≡ to_do o
+to_do_finished p o t f =
+    let k = kin_all p o.frames t f in
+    let waits = k.waits in
+    let tasks = k.tasks in
+    let room = k.room in
+    omega arith
+
+-- where no entry waits and no task runs, the run is whole
+pub left_ended : (p : Program) (o : Owner) (least : Option FaultRun) → IsLive p o → next_of o.frames ≡ None → o.frames.below ≡ []
+    → left p o least ≡ ended_ran o least
+left_ended p o least h none below =
+    let long = ended_none o.frames.top.calls o.frames.top.finished none in
+    let no_more : waiting_below o.frames.below ≡ 0 = ap waiting_below below in
+    let few = h.few in
+    let room = h.room in
+    let count : o.frames.tasks - waiting o.frames ≡ o.frames.tasks = omega arith in
+    let kept : o.frames.tasks ≤ TASKS = omega arith in
+    let rest : rest_of p o.frames o.store.items ≡ still_at (machine_of p) o.store.items =
+    rest_ended p o.frames o.store.items long ∙ ap (λ (b : List Frame). rest_below p b o.store.items) below in
+    ap (λ (n : ℕ). answered_from p least n (rest_of p o.frames o.store.items)) count
+    ∙ ap (answered_from p least o.frames.tasks) rest
+    ∙ answered_still p least o.frames.tasks o.store.items kept
+
+pub turn_finished : (p : Program) (o : Owner) (t : Stack) (before : Option FaultRun) (new : Owner) (after : Option FaultRun) (turn : Turn)
+    → Finishes o.frames t → TurnIs p (with_frames o t) before new after turn → TurnIs p o before new after turn
+turn_finished p o t before new after T.Ran f h =
+    (h.0, h.1 ∙ left_finished p o t before f, subst (λ (n : ℕ). to_do new < n) (to_do_finished p o t f) h.2)
+turn_finished p o t before new after T.Ended f h = (sym (left_finished p o t before f) ∙ h.0, h.1)
+turn_finished p o t before new after T.Over f h = sym (left_finished p o t before f) ∙ h
+
+-- a run begins with main alone
+pub live_opened : (p : Program) (o : Owner) (input : List ℕ) → HasFirsts p.families o.firsts.items → o.store.items ≡ opened_with p.families input
+    → length input ≡ inputs_of p.families → o.frames ≡ opened TASKS → o.over ≡ false → IsLive p o
+live_opened p o input firsts store long frames over =
+    let good : GoodStack p (opened TASKS) = record { top = ((is_main refl, refl, omega arith), tt); below = tt } in
+    let some : waiting (opened TASKS) ≤ 1 = omega arith in
+    record {
+      firsts = firsts;
+      full = ap length store ∙ opened_length p.families input long;
+      good = subst (GoodStack p) (sym frames) good;
+      kept = over;
+      room = ap (λ (t : Stack). t.room) frames;
+      few = subst (λ (t : Stack). t.tasks ≤ t.room) (sym frames) (omega arith);
+      counted = subst (λ (t : Stack). waiting t ≤ t.tasks) (sym frames) some;
+    }
+
+module _ (p : Program) (input : List ℕ) where
+  main_rest : (s : List ℕ) → rest_of p (opened TASKS) s ≡ whole (machine_of p) main_placed s
+  main_rest s =
+      let x = whole (machine_of p) main_placed s in
+      ap (λ (es : List (Entry (machine_of p))). let r : Run (machine_of p) = record { store = x.store; entries = es } in r)
+      (append-nil (x.entries ++ []) ∙ append-nil x.entries)
+
+  pub left_opened : (o : Owner) → o.store.items ≡ opened_with p.families input → o.frames ≡ opened TASKS → left p o None ≡ outcome_of p input
+  unfolding reference
+  left_opened o store frames =
+      let none : 1 - waiting (opened TASKS) ≡ 0 = omega arith in
+      let r = whole (machine_of p) main_placed (opened_with p.families input) in
+      let count : 0 + length (tasks_of p r.entries) ≡ length (tasks_of p r.entries) = omega arith in
+      ap (λ (t : Stack). answered_from p None (t.tasks - waiting t) (rest_of p t o.store.items)) frames
+      ∙ ap (λ (n : ℕ). answered_from p None n (rest_of p (opened TASKS) o.store.items)) none
+      ∙ ap (answered_from p None 0) (main_rest o.store.items ∙ ap (whole (machine_of p) main_placed) store)
+      ∙ ap (λ (n : ℕ). answered n (length (indexes_of p r.entries)) (faults_of p r.entries) r.store) count
+
+-- the rows of a run that has ended are its store
+pub rows_long : (o : Owner) (least : Option FaultRun) (n : ℕ) → length o.store.items ≡ n → (rows : List ℕ)
+    → (ended_ran o least).outcome ≡ N.Rows rows → length rows ≡ n
+rows_long o None n long rows e = let same : o.store.items ≡ rows = cc in ap length (sym same) ∙ long
+rows_long o (Some f) n long rows e = cc
+
+pub limit_no_rows : (n : ℕ) (rows : List ℕ) → limit_ran.outcome ≡ N.Rows rows → length rows ≡ n
+limit_no_rows n rows e = cc

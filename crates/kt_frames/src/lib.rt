@@ -1,0 +1,15 @@
+//! The owner's loop: the tasks of a run one after another on one thread, each task's body whole and then its children.
+#![tactic(auto)]
+
+mod faults;
+mod frames;
+mod kinds;
+mod opening;
+mod owner;
+mod run;
+#[cfg(test)]
+mod tests;
+
+pub use frames::{Frames, Pushed};
+pub use kinds::has_only_tasks;
+pub use run::run_owner;
