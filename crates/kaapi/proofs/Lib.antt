@@ -1,6 +1,3 @@
-pub mod Elements
+pub mod JobReplies
 pub mod Endings
-pub mod Opening
-pub mod Sizes
-pub mod Runs
 pub mod OneAnswer

@@ -1,53 +1,182 @@
--- A job has one answer.
-use Rattle.std.proofs.Common.{◌≡◌, ℕ, List, true, false, Bool, Some, Ok, subst, sym, ap, refl}
+-- The words and a job have one answer.
+use Rattle.std.proofs.Common.{◌≡◌, ◌≤◌, ◌<◌, ℕ, List, [], ◌∷◌, true, false, Bool, Some, None, Option, Result, Ok, Err, length, refl, ap, sym, subst, ◌∙◌, arith, get_or}
+use Rattle.kt_io.specs.Ending.{Said}
+use Rattle.kt_law.specs.declared.limits.TheConstants.{JOB}
+use Rattle.kt_law.specs.declared.places.Place.{Place}
+use Rattle.kt_law.specs.declared.places.Refusal.{Refusal}
 use Rattle.kt_text.specs.Data.{numbers}
+use Rattle.kt_text.specs.Words.{command_of}
+use Rattle.kt_text.specs.declared.commands.Command.{Command}
+use Rattle.kt_text.specs.declared.commands.Command.TheVariants as C
+use Rattle.kt_text.specs.declared.data.DataError.{DataError}
+use Rattle.kt_text.specs.declared.data.DataError.TheVariants as D
+use Rattle.kt_prog.specs.Accepted.{IsAccepted}
 use Rattle.kt_prog.specs.Objects.{inputs_of}
+use Rattle.kt_frames.specs.OnlyTasks.{only_tasks}
+use Rattle.kt_prog.specs.Outcome.{outcome_of}
+use Rattle.kt_prog.specs.Refusals.{refusal_of}
 use Rattle.kt_prog.specs.declared.programs.Program.{Program}
-use Rattle.kt_read.specs.Rows.{rows_text}
-use Rattle.kt_read.specs.ThinJobs.{IsThinJob, IsOnlyThinJob}
-use Rattle.kt_read.specs.Laws.{OneText, ThinJobIsText}
-use Rattle.kaapi.specs.Answers.{Answer, done}
+use Rattle.kt_print.specs.CanonicalText.{canonical_text}
+use Rattle.kt_print.specs.Lines.{line_of}
+use Rattle.kt_print.specs.declared.lines.Line.{Line}
+use Rattle.kt_print.specs.declared.lines.Line.TheVariants as L
+use Rattle.kt_read.specs.Answers.{Answered, IsAnswer, IsRefused, Opens, Unopens, answered_line, answered_run}
+use Rattle.kt_read.specs.Answers.{IsAnswer as I, Unopens as U}
+use Rattle.kt_read.specs.Answers.IsRefused.{unread, broken}
+use Rattle.kt_read.specs.Jobs.{IsJob}
+use Rattle.kt_read.specs.Laws.{OneJob, OneRefusal, JobIsRead}
+use Rattle.kaapi.specs.Answers.{AnswersCheck, AnswersSeq, AnswersAsked, AnswersJob, AnswersCommand, told}
+use Rattle.kaapi.specs.Answers.{AnswersCheck as K}
+use Rattle.kaapi.specs.Answers.AnswersJob.{too_long, within}
+use Rattle.kaapi.specs.Answers.AnswersSeq.{mixed, run}
+use Rattle.kaapi.specs.Exits.{number_of}
 use Rattle.kaapi.specs.Laws.{OneAnswer}
-use Rattle.kaapi.specs.Thin.{opened_with}
-use Rattle.kaapi.specs.ThinRun.{run_of}
-use Rattle.kaapi.specs.Top.{AnswersJob, is_seq}
-use Rattle.kaapi.specs.Top.AnswersJob.{with_rows, as_not_built}
-use Rattle.kaapi.specs.Top.Answers.{to_seq, to_others}
-use Rattle.kaapi.proofs.Runs.{RunsRead, runs_read}
+use Rattle.kaapi.specs.declared.exits.Exit.{Exit}
+use Rattle.kaapi.specs.declared.exits.Exit.TheVariants as E
+use Rattle.kaapi.specs.declared.jobs.Asked.{Asked}
+use Rattle.kaapi.specs.declared.jobs.Asked.TheVariants as A
+use Rattle.kaapi.proofs.JobReplies.{answered_by, never_accepted, not_accepted}
 
-differs : (b : Bool) → b ≡ true → b ≡ false → ⊥
-differs b holds fails = cc
+both : {b : Bool} → b ≡ true → b ≡ false → ⊥
+both t f = cc
 
--- a thin job is read as one program
-only : OneText → ThinJobIsText → (job : List ℕ) (p : Program) (from : ℕ) → IsThinJob job p from → IsOnlyThinJob job p from
-only one_text is_text job p from reads q place other = one_text job q p place from (is_text job q place other) (is_text job p from reads)
+same_some : {A : Type 0} {o : Option A} {a b : A} → o ≡ Some a → o ≡ Some b → a ≡ b
+same_some h k = cc
 
-same_input : (job input other : List ℕ) (from wanted : ℕ) → numbers job from wanted ≡ Ok input → numbers job from wanted ≡ Ok other → input ≡ other
-same_input job input other from wanted one two = cc
+-- what is told of two answers to the data that begin at one place, of which so many are wanted
+one_error : {r : Result (List ℕ) DataError} {d e : DataError} → r ≡ Err d → r ≡ Err e → d ≡ e
+one_error h k = cc
 
--- two runs of one program from one input end in the same rows
-same_rows : (job : List ℕ) (p : Program) (from : ℕ) (rows others : List ℕ) → RunsRead job p from rows → RunsRead job p from others → rows ≡ others
-same_rows job p from rows others one two =
-    let input : one.input ≡ two.input = same_input job one.input two.input from (inputs_of p.families) one.data_given two.data_given in
-    let first : run_of p (opened_with p.families two.input) ≡ Some rows = subst (λ (xs : List ℕ). run_of p (opened_with p.families xs) ≡ Some rows) input one.runs in
-    let second = two.runs in
-    cc
+one_input : {r : Result (List ℕ) DataError} {a b : List ℕ} → r ≡ Ok a → r ≡ Ok b → a ≡ b
+one_input h k = cc
 
-same_text : (p q : Program) (rows others : List ℕ) → p ≡ q → rows ≡ others → rows_text p.families rows ≡ rows_text q.families others
-same_text p q rows others programs same = cc
+no_input : {r : Result (List ℕ) DataError} {a : List ℕ} {e : DataError} → r ≡ Ok a → r ≡ Err e → ⊥
+no_input h k = cc
 
-one_job_answer : OneText → ThinJobIsText → (job : List ℕ) (a b : Answer) → AnswersJob job a → AnswersJob job b → a ≡ b
-one_job_answer one_text is_text job a b (with_rows p rows run) (with_rows q others other) =
-    let alone = only one_text is_text job p run.from run.reads in
-    let programs : q ≡ p = (alone q other.from other.reads).0 in
-    let rows_same = same_rows job p run.from rows others (runs_read job p run.from alone p rows run) (runs_read job p run.from alone q others other) in
-    ap done (same_text p q rows others (sym programs) rows_same)
-one_job_answer one_text is_text job a b (with_rows p rows run) (as_not_built none) = absurd (none p rows run)
-one_job_answer one_text is_text job a b (as_not_built none) (with_rows p rows run) = absurd (none p rows run)
-one_job_answer one_text is_text job a b (as_not_built none) (as_not_built other) = refl
+module _ (one_job : OneJob) (one_refusal : OneRefusal) (is_read : JobIsRead) where
+  one_refused : (bytes : List ℕ) (r s : Refusal) → IsRefused bytes r → IsRefused bytes s → r ≡ s
+  one_refused bytes r s (unread h) (unread k) = one_refusal bytes r s h k
+  one_refused bytes r s (unread h) (broken {p = q} {from} job k) = absurd (is_read bytes q from r job h)
+  one_refused bytes r s (broken {p} {from} job h) (unread k) = absurd (is_read bytes p from s job k)
+  one_refused bytes r s (broken {p} {from} job h) (broken {p = q} {from = place} other k) =
+      same_some (subst (λ p. refusal_of p ≡ Some r) (one_job bytes p q from place job other).0 h) k
 
-pub one_answer : OneText → ThinJobIsText → OneAnswer
-one_answer one_text is_text words job a b (to_seq seq first) (to_seq again second) = one_job_answer one_text is_text job a b first second
-one_answer one_text is_text words job a b (to_seq seq first) (to_others none second) = absurd (differs (is_seq words) seq none)
-one_answer one_text is_text words job a b (to_others none first) (to_seq seq second) = absurd (differs (is_seq words) seq none)
-one_answer one_text is_text words job a b (to_others none first) (to_others also second) = cc
+  not_opened : {X : Type 0} (bytes : List ℕ) (r : Refusal) (p : Program) (from wanted : ℕ) → IsRefused bytes r → Opens bytes p from wanted → X
+  not_opened bytes r p from wanted h opens = absurd (never_accepted one_job is_read bytes r h p from opens.job opens.accepted)
+
+  -- the answer of the data that begin somewhere, by what `numbers` says of them
+  data Says (bytes : List ℕ) (p : Program) (from wanted : ℕ) : Answered → Type 0 where
+    bad_number : {place : Place} → numbers bytes from wanted ≡ Err (D.BadNumber place) → Says bytes p from wanted (answered_line 6 (L.BadNumber place))
+    too_few : {found sought : ℕ} → numbers bytes from wanted ≡ Err (D.TooFew found sought) → Says bytes p from wanted (answered_line 6 (L.TooFew found sought))
+    too_many : {place : Place} → numbers bytes from wanted ≡ Err (D.TooMany place) → Says bytes p from wanted (answered_line 6 (L.TooMany place))
+    ran : {input : List ℕ} → numbers bytes from wanted ≡ Ok input → Says bytes p from wanted (answered_run p.families (outcome_of p input).outcome)
+
+  one_said : (bytes : List ℕ) (p : Program) (from wanted : ℕ) (a b : Answered) → Says bytes p from wanted a → Says bytes p from wanted b → a ≡ b
+  one_said bytes p from wanted a b (bad_number h) (bad_number k) = let e = one_error h k in cc
+  one_said bytes p from wanted a b (bad_number h) (too_few k) = let e = one_error h k in absurd cc
+  one_said bytes p from wanted a b (bad_number h) (too_many k) = let e = one_error h k in absurd cc
+  one_said bytes p from wanted a b (bad_number h) (ran k) = absurd (no_input k h)
+  one_said bytes p from wanted a b (too_few h) (bad_number k) = let e = one_error h k in absurd cc
+  one_said bytes p from wanted a b (too_few h) (too_few k) = let e = one_error h k in cc
+  one_said bytes p from wanted a b (too_few h) (too_many k) = let e = one_error h k in absurd cc
+  one_said bytes p from wanted a b (too_few h) (ran k) = absurd (no_input k h)
+  one_said bytes p from wanted a b (too_many h) (bad_number k) = let e = one_error h k in absurd cc
+  one_said bytes p from wanted a b (too_many h) (too_few k) = let e = one_error h k in absurd cc
+  one_said bytes p from wanted a b (too_many h) (too_many k) = let e = one_error h k in cc
+  one_said bytes p from wanted a b (too_many h) (ran k) = absurd (no_input k h)
+  one_said bytes p from wanted a b (ran h) (bad_number k) = absurd (no_input h k)
+  one_said bytes p from wanted a b (ran h) (too_few k) = absurd (no_input h k)
+  one_said bytes p from wanted a b (ran h) (too_many k) = absurd (no_input h k)
+  one_said bytes p from wanted a b (ran h) (ran k) = ap (λ input. answered_run p.families (outcome_of p input).outcome) (one_input h k)
+
+  -- an answer is that of a refusal, or that of data
+  data Kind (bytes : List ℕ) (a : Answered) : Type 0 where
+    of_refusal : (r : Refusal) → IsRefused bytes r → a ≡ answered_line 5 (L.Refused r) → Kind bytes a
+    of_data : (p : Program) (from wanted : ℕ) → Opens bytes p from wanted → Says bytes p from wanted a → Kind bytes a
+
+  kind_of_line : (bytes : List ℕ) (status : ℕ) (line : Line) → Unopens bytes status line → Kind bytes (answered_line status line)
+  kind_of_line bytes status line (U.refused h) = of_refusal _ h refl
+  kind_of_line bytes status line (U.bad_number opens h) = of_data _ _ _ opens (bad_number h)
+  kind_of_line bytes status line (U.too_few opens h) = of_data _ _ _ opens (too_few h)
+  kind_of_line bytes status line (U.too_many opens h) = of_data _ _ _ opens (too_many h)
+
+  kind_of : (bytes : List ℕ) (a : Answered) → IsAnswer bytes a → Kind bytes a
+  kind_of bytes a (I.unopened {status} {line} h) = kind_of_line bytes status line h
+  kind_of bytes a (I.ran opened) = of_data _ _ _ opened.opens (ran opened.data_given)
+
+  says_at : (bytes : List ℕ) (p q : Program) (from place wanted sought : ℕ) (a : Answered) → Opens bytes p from wanted → Opens bytes q place sought →
+      Says bytes q place sought a → Says bytes p from wanted a
+  says_at bytes p q from place wanted sought a one other h =
+      let is = one_job bytes q p place from other.job one.job in
+      let count : sought ≡ wanted = other.wants ∙ ap (λ (p : Program). inputs_of p.families) is.0 ∙ sym one.wants in
+      subst (λ wanted. Says bytes p from wanted a) count (subst (λ from. Says bytes p from sought a) is.1 (subst (λ p. Says bytes p place sought a) is.0 h))
+
+  one_kind : (bytes : List ℕ) (a b : Answered) → Kind bytes a → Kind bytes b → a ≡ b
+  one_kind bytes a b (of_refusal r h e) (of_refusal s k f) = e ∙ ap (λ r. answered_line 5 (L.Refused r)) (one_refused bytes r s h k) ∙ sym f
+  one_kind bytes a b (of_refusal r h e) (of_data q place sought opens k) = not_opened bytes r q place sought h opens
+  one_kind bytes a b (of_data p from wanted opens h) (of_refusal s k f) = not_opened bytes s p from wanted k opens
+  one_kind bytes a b (of_data p from wanted opens h) (of_data q place sought other k) =
+      one_said bytes p from wanted a b h (says_at bytes p q from place wanted sought b opens other k)
+
+  one_run : (bytes : List ℕ) (a b : Answered) → IsAnswer bytes a → IsAnswer bytes b → a ≡ b
+  one_run bytes a b h k = one_kind bytes a b (kind_of bytes a h) (kind_of bytes b k)
+
+  one_check : (job : List ℕ) (a b : Said Exit) → AnswersCheck job a → AnswersCheck job b → a ≡ b
+  one_check job a b (K.refused {r} h) (K.refused {r = s} k) = ap (λ r. told E.Refused (L.Refused r)) (one_refused job r s h k)
+  one_check job a b (K.refused {r} h) (K.printed {p = q} {from = place} other accepted) = absurd (never_accepted one_job is_read job r h q place other accepted)
+  one_check job a b (K.printed {p} {from} reads accepted) (K.refused {r = s} k) = absurd (never_accepted one_job is_read job s k p from reads accepted)
+  one_check job a b (K.printed {p} {from} reads accepted) (K.printed {p = q} {from = place} other also) =
+      ap (λ p. record { exit = E.Done; text = canonical_text p }) (one_job job p q from place reads other).0
+
+  abbrev exit_of : ℕ → Exit
+  exit_of n =
+      get_or
+      (E.Done ∷ E.Done ∷ E.Usage ∷ E.ReadFault ∷ E.WriteFault ∷ E.Refused ∷ E.BadData ∷ E.Fault ∷ E.Limit ∷ E.TooLong ∷ E.NoMemory ∷ E.NotBuilt ∷ []) n
+      E.Done
+
+  its_exit : (a : Exit) → exit_of (number_of a) ≡ a
+  its_exit E.Done = refl
+  its_exit E.Usage = refl
+  its_exit E.ReadFault = refl
+  its_exit E.WriteFault = refl
+  its_exit E.Refused = refl
+  its_exit E.BadData = refl
+  its_exit E.Fault = refl
+  its_exit E.Limit = refl
+  its_exit E.TooLong = refl
+  its_exit E.NoMemory = refl
+  its_exit E.NotBuilt = refl
+
+  same_reply : (a b : Said Exit) → answered_by a ≡ answered_by b → a ≡ b
+  same_reply a b h =
+      let exits : a.exit ≡ b.exit = sym (its_exit a.exit) ∙ ap (λ (x : Answered). exit_of x.status) h ∙ its_exit b.exit in
+      let texts : a.text ≡ b.text = ap (λ (x : Answered). x.text) h in
+      ap (λ exit. let r : Said Exit = record { exit = exit; text = a.text } in r) exits ∙ ap (λ text. let r : Said Exit = record { exit = b.exit; text = text } in r) texts
+
+  one_seq : (job : List ℕ) (a b : Said Exit) → AnswersSeq job a → AnswersSeq job b → a ≡ b
+  one_seq job a b (mixed reads accepted no_tasks) (mixed other also none) = refl
+  one_seq job a b (mixed {p} {from} reads accepted more) (run only k) = absurd (both (only p from reads accepted) more)
+  one_seq job a b (run only h) (mixed {p} {from} reads accepted more) = absurd (both (only p from reads accepted) more)
+  one_seq job a b (run only h) (run also k) = same_reply a b (one_run job (answered_by a) (answered_by b) h k)
+
+  one_asked : (asked : Asked) (job : List ℕ) (a b : Said Exit) → AnswersAsked asked job a → AnswersAsked asked job b → a ≡ b
+  one_asked A.Check job a b h k = one_check job a b h k
+  one_asked A.Seq job a b h k = one_seq job a b h k
+
+  one_job_answer : (asked : Asked) (job : List ℕ) (a b : Said Exit) → AnswersJob asked job a → AnswersJob asked job b → a ≡ b
+  one_job_answer asked job a b (too_long h) (too_long k) = refl
+  one_job_answer asked job a b (too_long h) (within few k) = absurd (omega arith)
+  one_job_answer asked job a b (within few h) (too_long k) = absurd (omega arith)
+  one_job_answer asked job a b (within few h) (within also k) = one_asked asked job a b h k
+
+  one_command : (command : Option Command) (job : List ℕ) (a b : Said Exit) → AnswersCommand command job a → AnswersCommand command job b → a ≡ b
+  one_command (Some C.Check) job a b h k = one_job_answer A.Check job a b h k
+  one_command (Some C.Seq) job a b h k = one_job_answer A.Seq job a b h k
+  one_command (Some (C.Sim workers number)) job a b h k = h ∙ sym k
+  one_command (Some (C.Gen kind size number)) job a b h k = h ∙ sym k
+  one_command (Some (C.Run workers)) job a b h k = h ∙ sym k
+  one_command (Some (C.Demo kind size number workers)) job a b h k = h ∙ sym k
+  one_command None job a b h k = h ∙ sym k
+
+pub one_answer : OneJob → OneRefusal → JobIsRead → OneAnswer
+one_answer one_job one_refusal is_read words job a b h k = one_command one_job one_refusal is_read (command_of words) job a b h k

@@ -1,19 +1,72 @@
--- What is answered, as an exit and a text.
-use Rattle.std.specs.Prelude.{ℕ, List, codes}
+-- What the words and a job are answered: an exit and a text.
+use Rattle.std.specs.Prelude.{◌≡◌, ◌≤◌, ◌<◌, ℕ, List, length, codes, Bool, true, false, Option, Some, None}
 use Rattle.kt_io.specs.Ending.{Said, Faults}
+use Rattle.kt_law.specs.declared.limits.TheConstants.{JOB}
+use Rattle.kt_law.specs.declared.places.Refusal.{Refusal}
+use Rattle.kt_text.specs.Words.{command_of}
+use Rattle.kt_text.specs.declared.commands.Command.{Command}
+use Rattle.kt_text.specs.declared.commands.Command.TheVariants as C
+use Rattle.kt_prog.specs.Accepted.{IsAccepted}
+use Rattle.kt_frames.specs.OnlyTasks.{only_tasks}
+use Rattle.kt_prog.specs.declared.programs.Program.{Program}
+use Rattle.kt_print.specs.CanonicalText.{canonical_text}
+use Rattle.kt_print.specs.Lines.{line_of}
+use Rattle.kt_print.specs.declared.lines.Line.{Line}
+use Rattle.kt_print.specs.declared.lines.Line.TheVariants as L
+use Rattle.kt_read.specs.Answers.{IsAnswer, IsRefused}
+use Rattle.kt_read.specs.Jobs.{IsJob}
+use Rattle.kaapi.specs.Exits.{number_of}
 use Rattle.kaapi.specs.declared.exits.Exit.{Exit}
 use Rattle.kaapi.specs.declared.exits.Exit.TheVariants as E
-
-pub data Answer : Type 0 where
-  -- the rows in which the run ends
-  done : List ℕ → Answer
-  -- no answer of this program yet
-  not_built : Answer
-
-abbrev pub said : Answer → Said Exit
-said (done text) = record { exit = E.Done; text = text }
-said not_built = record { exit = E.NotBuilt; text = codes "not built\n" }
+use Rattle.kaapi.specs.declared.jobs.Asked.{Asked}
+use Rattle.kaapi.specs.declared.jobs.Asked.TheVariants as A
 
 -- the exits that are no answers
 abbrev pub faults : Faults Exit
 faults = record { read_fault = E.ReadFault; write_fault = E.WriteFault; no_memory = E.NoMemory }
+
+abbrev pub told : Exit → Line → Said Exit
+told exit line = record { exit = exit; text = line_of line }
+
+-- of what is not built yet
+abbrev pub not_built : Said Exit
+not_built = record { exit = E.NotBuilt; text = codes "not built\n" }
+
+-- to `check`: the refusal, or the canonical text of the program
+pub data AnswersCheck (job : List ℕ) : Said Exit → Type 0 where
+  refused : {r : Refusal} → IsRefused job r → AnswersCheck job (told E.Refused (L.Refused r))
+  printed : {p : Program} {from : ℕ} → IsJob job p from → IsAccepted p → AnswersCheck job (record { exit = E.Done; text = canonical_text p })
+
+-- to `seq`: what the job is answered that is run, unless its program is accepted and has more than tasks
+pub data AnswersSeq (job : List ℕ) : Said Exit → Type 0 where
+  mixed : {p : Program} {from : ℕ} → IsJob job p from → IsAccepted p → only_tasks p ≡ false → AnswersSeq job not_built
+  run : {reply : Said Exit} → ((p : Program) (from : ℕ) → IsJob job p from → IsAccepted p → only_tasks p ≡ true) →
+      IsAnswer job (record { status = number_of reply.exit; text = reply.text }) → AnswersSeq job reply
+
+abbrev pub AnswersAsked : Asked → List ℕ → Said Exit → Type 0
+AnswersAsked A.Check job reply = AnswersCheck job reply
+AnswersAsked A.Seq job reply = AnswersSeq job reply
+
+-- to words that ask for an answer to a job, of which there may be so many bytes
+pub data AnswersJob (asked : Asked) (job : List ℕ) : Said Exit → Type 0 where
+  too_long : JOB < length job → AnswersJob asked job (told E.TooLong L.TooLong)
+  within : {reply : Said Exit} → length job ≤ JOB → AnswersAsked asked job reply → AnswersJob asked job reply
+
+-- to what the words ask for
+abbrev pub AnswersCommand : Option Command → List ℕ → Said Exit → Type 0
+AnswersCommand (Some C.Check) job reply = AnswersJob A.Check job reply
+AnswersCommand (Some C.Seq) job reply = AnswersJob A.Seq job reply
+AnswersCommand (Some (C.Sim workers number)) job reply = reply ≡ not_built
+AnswersCommand (Some (C.Gen kind size number)) job reply = reply ≡ not_built
+AnswersCommand (Some (C.Run workers)) job reply = reply ≡ told E.Usage L.Usage
+AnswersCommand (Some (C.Demo kind size number workers)) job reply = reply ≡ told E.Usage L.Usage
+AnswersCommand None job reply = reply ≡ told E.Usage L.Usage
+
+abbrev pub Answers : List (List ℕ) → List ℕ → Said Exit → Type 0
+Answers words job reply = AnswersCommand (command_of words) job reply
+
+-- the words ask for an answer to a job
+abbrev pub asks_job : Option Command → Bool
+asks_job (Some C.Check) = true
+asks_job (Some C.Seq) = true
+asks_job _ = false

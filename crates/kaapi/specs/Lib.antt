@@ -1,6 +1,5 @@
 pub mod Exits
 pub mod Answers
-pub mod ThinRun
-pub mod Thin
 pub mod Top
+pub mod Jobs
 pub mod Laws

@@ -1,13 +1,12 @@
-//! Answers a job on standard input: `kaapi seq`.
+//! Answers a job on standard input: `kaapi check`, `kaapi seq`.
 #![tactic(auto)]
 
 mod exits;
+mod jobs;
 mod laws;
 mod replies;
 #[cfg(test)]
 mod tests;
-mod thin;
-mod thin_run;
 mod top;
 
 use crate::exits::Exit;
@@ -23,7 +22,7 @@ fn words_of(rt: &HostRuntime) -> Result<Vec<String>, u8> {
         Err(error) if error.kind() == io::ErrorKind::OutOfMemory => return Err(
             Exit::NoMemory.code(),
         ),
-        Err(_) => return Err(USAGE),
+        Err(_) => return Err(Exit::Usage.code()),
     };
     let mut words = Vec::new(rt.alloc());
     for word in all.skip(1) {
@@ -33,9 +32,6 @@ fn words_of(rt: &HostRuntime) -> Result<Vec<String>, u8> {
     }
     Ok(words)
 }
-
-/// The status where the words are no text.
-const USAGE: u8 = 2;
 
 fn main(rt: HostRuntime) -> ExitCode {
     let status = match words_of(&rt) {

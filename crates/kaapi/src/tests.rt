@@ -1,8 +1,8 @@
 use crate::exits::Exit;
 use crate::laws::one_answer;
-use crate::thin::THIN_BYTES;
 use crate::top::top_plain;
 use kt_io::{MemSink, MemSource};
+use kt_law::JOB;
 use std::alloc::{AllocError, Global};
 use std::process::Abort;
 use std::test::Fail;
@@ -10,86 +10,67 @@ use std::test::Fail;
 const COUNTER: &str =
     "object A of 1 input output;\ntask inc(x P) { P[0] = P[0] + 1; }\nmain { fork inc(A); }\ndata\n41\n";
 
-const WRAPS: &str =
-    "object A of 1 input output;\ntask inc(x P) { P[0] = P[0] + 1; }\nmain { fork inc(A); }\ndata\n18446744073709551615\n";
+const SATURATES: &str =
+    "object A of 1 input output;\ntask inc(x P) { P[0] = satadd(P[0], 1); }\nmain { fork inc(A); }\ndata\n18446744073709551615\n";
 
-const WRITES_ONLY: &str =
-    "object A of 1 input output;\ntask inc(w P) { P[0] = P[0] + 1; }\nmain { fork inc(A); }\ndata\n41\n";
+const ZEROED: &str =
+    "object A of 3 input output;\ntask one(w P) { P[1] = 7; }\nmain { fork one(A); }\ndata\n5 5 5\n";
 
-const TWO_ROWS: &str =
-    "object A of 2 output; object B of 1; object C of 3 input output;\ntask set(x P) { P[0] = 7; P[1] = P[0] + P[0]; }\nmain { fork set(A); fork set(C); fork set(A); }\ndata 1 2 3";
+const LAST_WRITE: &str =
+    "object A of 1 output; object B of 1 output;\ntask put(int v, w P) { P[0] = v; }\ntask copy(r P, x Q) { Q[0] = P[0]; }\nmain { fork put(3, A); fork put(4, A); fork copy(A, B); }\ndata\n";
 
-const PAST_THE_END: &str =
-    "object A of 1 output;\ntask set(x P) { P[1] = 7; }\nmain { fork set(A); }\ndata";
+const CUMULATED: &str =
+    "object A of 1 output; object B of 1 output;\ntask one(int v, cw(add) P) { P[0] add= v; }\ntask copy(r P, x Q) { Q[0] = P[0]; }\nmain { for i in 1..11 { fork one(i, A); } fork copy(A, B); }\ndata\n";
 
-const NO_SUCH_TASK: &str = "object A of 1 output;\nmain { fork set(A); }\ndata";
+const TWO_LAWS: &str =
+    "object A of 1 output;\ntask a(int v, cw(add) P) { P[0] add= v; }\ntask m(int v, cw(max) P) { P[0] max= v; }\nmain { fork a(5, A); fork m(9, A); fork a(2, A); }\ndata\n";
 
-const A_KERNEL: &str = "object k_mul of 1 output; main {} data";
+const NEVER_RUN: &str =
+    "object A of 1;\ntask see(r P) { let v = P[0]; }\ntask own(x P) {\n  if 0 {\n    fork see(P);\n  }\n}\nmain { fork own(A); }\ndata\n";
 
-const OTHER_ELEMENT: &str = "object A of 1; task set(x P) { A[0] = 7; } main {} data";
+const ALIAS: &str =
+    "object D[4] of 1 output;\ntask mix(r P, x Q) { Q[0] = P[0] + 1; }\nmain { for i in 0..2 { fork mix(D[i], D[1]); } }\ndata\n";
 
-// The job, the source's piece and failing call (0: none), the sink's, the exit and what is written.
-type Row = (&'static str, (usize, u64), (usize, u64), Exit, &'static str);
+const FIRST_FAULT: &str =
+    "object Z of 1;\ntask slow(x P) { for i in 0..1000 { P[0] = i; } P[0] = 1 / 0; }\ntask fast(int v) { let q = v / 0; }\nmain { fork slow(Z); fork fast(1); }\ndata\n";
 
-#[test]
-fn jobs_end_as_they_should(rt: HostRuntime) -> Result<(), Fail> {
-    let rows: [Row; 15] = [
-        ("main {}\ndata\n", (100, 0), (100, 0), Exit::Done, ""),
-        (COUNTER, (100, 0), (100, 0), Exit::Done, "A[0] 42\n"),
-        (COUNTER, (1, 0), (1, 0), Exit::Done, "A[0] 42\n"),
-        (WRAPS, (100, 0), (100, 0), Exit::Done, "A[0] 0\n"),
-        (
-            TWO_ROWS,
-            (100, 0),
-            (100, 0),
-            Exit::Done,
-            "A[0] 7 14\nC[0] 7 14 3\n",
-        ),
-        (
-            WRITES_ONLY,
-            (100, 0),
-            (100, 0),
-            Exit::NotBuilt,
-            "not built\n",
-        ),
-        (
-            PAST_THE_END,
-            (100, 0),
-            (100, 0),
-            Exit::NotBuilt,
-            "not built\n",
-        ),
-        (
-            NO_SUCH_TASK,
-            (100, 0),
-            (100, 0),
-            Exit::NotBuilt,
-            "not built\n",
-        ),
-        (A_KERNEL, (100, 0), (100, 0), Exit::NotBuilt, "not built\n"),
-        (
-            OTHER_ELEMENT,
-            (100, 0),
-            (100, 0),
-            Exit::NotBuilt,
-            "not built\n",
-        ),
-        (
-            "main {} data 5",
-            (100, 0),
-            (100, 0),
-            Exit::NotBuilt,
-            "not built\n",
-        ),
-        ("", (100, 0), (100, 0), Exit::NotBuilt, "not built\n"),
-        (COUNTER, (10, 2), (100, 0), Exit::ReadFault, ""),
-        (COUNTER, (10, 0), (5, 2), Exit::WriteFault, "A[0] "),
-        ("@", (10, 0), (5, 2), Exit::WriteFault, "not b"),
-    ];
-    for row in rows {
-        ends(&rt, rt.alloc(), row)?;
+const MANY: &str =
+    "object A of 1 output;\ntask one(cw(add) P) { P[0] add= 1; }\nmain { for i in 0..16383 { fork one(A); } }\ndata\n";
+
+const TOO_MANY: &str =
+    "object A of 1 output;\ntask one(cw(add) P) { P[0] add= 1; }\nmain { for i in 0..16384 { fork one(A); } }\ndata\n";
+
+const DEEP: &str =
+    "object A of 1 output;\ntask down(int k, cw(add) P) { P[0] add= 1; if k > 0 { fork down(k - 1, P); } }\nmain { fork down(31, A); }\ndata\n";
+
+const HALVES: &str =
+    "object A[4] of 1 output;\ntask put(int v, w P) { P[0] = v; }\ntask fill(int v, int n, wp R[]) {\n  if n == 1 { fork put(v, R[0]); } else {\n    fork fill(v, n / 2, R[0..n / 2]);\n    fork fill(v + n / 2, n - n / 2, R[n / 2..n]);\n  }\n}\nmain { fork fill(10, 4, A); }\ndata\n";
+
+const A_LOOP: &str =
+    "object A of 1 output;\nloop c(i; cw(add) P) { P[0] add= i; }\nmain { fork c(3; A); }\ndata 5\n";
+
+const A_KERNEL: &str = "object A of 4;\nmain { if 0 { fork k_scan(4, 0, A, A); } }\ndata\n";
+
+const ROUND_TRIP: &str = "main { let v = (1+2)*3; if v { } else { v = 4; } } # comment\ndata x";
+
+const CANONICAL: &str =
+    "main {\n  let v = (1 + 2) * 3;\n  if v {\n  } else {\n    v = 4;\n  }\n}\ndata\n";
+
+#[derive(Clone, Copy)]
+struct Case {
+    words: &'static str,
+    job: &'static str,
+    exit: Exit,
+    text: &'static str,
+}
+
+fn answers(words: &'static str, job: &'static str, exit: Exit, text: &'static str) -> Case {
+    Case {
+        words,
+        job,
+        exit,
+        text,
     }
-    Ok(())
 }
 
 fn words_of(alloc: Global, text: &str) -> Result<Vec<String>, AllocError> {
@@ -100,26 +81,258 @@ fn words_of(alloc: Global, text: &str) -> Result<Vec<String>, AllocError> {
     Ok(words)
 }
 
-fn ends(rt: &impl Abort, alloc: Global, row: Row) -> Result<(), Fail> {
-    let (job, (piece, fails), (taken, refused), exit, text) = row;
-    assert!(rt; piece > 0 && taken > 0);
-    let mut source = MemSource::new(job.as_bytes().to_vec(alloc)?, piece, [fails].to_vec(alloc)?);
-    let mut sink = MemSink::new(alloc, 100, taken, [refused].to_vec(alloc)?)?;
-    let found = top_plain(alloc, &words_of(alloc, "seq")?, &mut source, &mut sink);
-    assert!(rt; found == exit, "{job}");
-    assert!(rt; sink.written() == text.as_bytes(), "{job}");
+// Ends as it should over streams of pieces of this many bytes, whose calls of this number fail (none for 0).
+fn ends(
+    rt: &impl Abort,
+    alloc: Global,
+    case: &Case,
+    pieces: (usize, usize),
+    fails: (u64, u64),
+) -> Result<(), Fail> {
+    assert!(rt; pieces.0 > 0 && pieces.1 > 0);
+    let bytes = case.job.as_bytes().to_vec(alloc)?;
+    let mut source = MemSource::new(bytes, pieces.0, [fails.0].to_vec(alloc)?);
+    let mut sink = MemSink::new(alloc, 200, pieces.1, [fails.1].to_vec(alloc)?)?;
+    let found = top_plain(alloc, &words_of(alloc, case.words)?, &mut source, &mut sink);
+    assert!(rt; found == case.exit, "{}", case.job);
+    assert!(rt; sink.written() == case.text.as_bytes(), "{}", case.job);
+    Ok(())
+}
+
+fn end_whole(rt: &impl Abort, alloc: Global, cases: &[Case]) -> Result<(), Fail> {
+    for case in cases {
+        ends(rt, alloc, case, (100, 100), (0, 0))?;
+    }
     Ok(())
 }
 
 #[test]
-fn other_words_read_nothing(rt: HostRuntime) -> Result<(), Fail> {
+fn runs_end_in_rows(rt: HostRuntime) -> Result<(), Fail> {
+    let cases = [
+        answers("seq", "main {}\ndata\n", Exit::Done, ""),
+        answers("seq", COUNTER, Exit::Done, "A[0] 42\n"),
+        answers("seq", SATURATES, Exit::Done, "A[0] 18446744073709551615\n"),
+        answers("seq", ZEROED, Exit::Done, "A[0] 0 7 0\n"),
+        answers("seq", LAST_WRITE, Exit::Done, "A[0] 4\nB[0] 4\n"),
+        answers("seq", CUMULATED, Exit::Done, "A[0] 55\nB[0] 55\n"),
+        answers("seq", TWO_LAWS, Exit::Done, "A[0] 11\n"),
+        answers("seq", MANY, Exit::Done, "A[0] 16383\n"),
+        answers("seq", DEEP, Exit::Done, "A[0] 32\n"),
+        answers(
+            "seq",
+            HALVES,
+            Exit::Done,
+            "A[0] 10\nA[1] 11\nA[2] 12\nA[3] 13\n",
+        ),
+    ];
+    end_whole(&rt, rt.alloc(), &cases)
+}
+
+#[test]
+fn runs_end_in_faults_and_limits(rt: HostRuntime) -> Result<(), Fail> {
+    let cases = [
+        answers("seq", ALIAS, Exit::Fault, "fault F4 main line 3\n"),
+        answers("seq", FIRST_FAULT, Exit::Fault, "fault F1 1 line 2\n"),
+        answers("seq", TOO_MANY, Exit::Limit, "limit\n"),
+        answers("seq", A_LOOP, Exit::NotBuilt, "not built\n"),
+        answers("seq", A_KERNEL, Exit::NotBuilt, "not built\n"),
+    ];
+    end_whole(&rt, rt.alloc(), &cases)
+}
+
+#[test]
+fn data_are_refused(rt: HostRuntime) -> Result<(), Fail> {
+    let cases = [
+        answers(
+            "seq",
+            "object A of 1 input;\nmain {}\ndata\n1x\n",
+            Exit::BadData,
+            "data B1 4:1\n",
+        ),
+        answers(
+            "seq",
+            "object A of 1 input;\nmain {}\ndata\n",
+            Exit::BadData,
+            "data B2 0 1\n",
+        ),
+        answers(
+            "seq",
+            "object A of 1 input;\nmain {}\ndata\n1 2\n",
+            Exit::BadData,
+            "data B3 4:3\n",
+        ),
+        answers("seq", "main {} data 5", Exit::BadData, "data B3 1:14\n"),
+        answers("check", "main {} data 5", Exit::Done, "main {\n}\ndata\n"),
+    ];
+    end_whole(&rt, rt.alloc(), &cases)
+}
+
+#[test]
+fn texts_are_refused(rt: HostRuntime) -> Result<(), Fail> {
+    let cases = [
+        answers("seq", "", Exit::Refused, "refused P4 1:1\n"),
+        answers("check", "main { @ }", Exit::Refused, "refused P1 1:8\n"),
+        answers(
+            "seq",
+            "main { let v = 12ab; }",
+            Exit::Refused,
+            "refused P2 1:16\n",
+        ),
+        answers(
+            "check",
+            "main { let v = 18446744073709551616; }",
+            Exit::Refused,
+            "refused P3 1:16\n",
+        ),
+        answers("seq", "main {}\n", Exit::Refused, "refused P4 2:1\n"),
+        answers("check", "main {} data5", Exit::Refused, "refused P4 1:9\n"),
+        answers(
+            "check",
+            "main { fork t(); } data",
+            Exit::Refused,
+            "refused P6 1:13\n",
+        ),
+        answers("seq", NEVER_RUN, Exit::Refused, "refused P9 5:14\n"),
+        answers(
+            "check",
+            "loop l(i; x P) { P[0] = 1; } main {} data",
+            Exit::Refused,
+            "refused P11 1:18\n",
+        ),
+        answers("check", "data", Exit::Refused, "refused P13 1:1\n"),
+    ];
+    end_whole(&rt, rt.alloc(), &cases)
+}
+
+const WORLD: &str =
+    "object A of 1; object B[1] of 1; task number(int P) {} task one(r P) {} task many(rp P[]) {} loop each(i;) {} ";
+
+// What is answered, and the text of a program behind those declarations that breaks a rule.
+const BROKEN: [(&str, &str); 23] = [
+    ("refused P8 1:126\n", "main { let v = A; } data"),
+    ("refused P8 1:130\n", "main { fork number(A); } data"),
+    ("refused P8 1:118\n", "main { A = 1; } data"),
+    (
+        "refused P8 1:134\n",
+        "main { for v in 0..1 { v = 1; } } data",
+    ),
+    ("refused P8 1:126\n", "main { let v = B[0]; } data"),
+    ("refused P8 1:118\n", "main { B[0] = 1; } data"),
+    ("refused P8 1:118\n", "main { B[0] add= 1; } data"),
+    ("refused P8 1:123\n", "main { fork number(3; 1); } data"),
+    ("refused P8 1:123\n", "main { fork each(); } data"),
+    ("refused P7 1:123\n", "main { fork number(3;); } data"),
+    ("refused P8 1:130\n", "main { fork number(B[0..1]); } data"),
+    ("refused P8 1:127\n", "main { fork one(1); } data"),
+    ("refused P8 1:127\n", "main { fork one(B); } data"),
+    ("refused P8 1:127\n", "main { fork one(B[0..1]); } data"),
+    ("refused P8 1:127\n", "main { fork one(A[0]); } data"),
+    ("refused P8 1:128\n", "main { fork many(1); } data"),
+    ("refused P8 1:128\n", "main { fork many(A); } data"),
+    ("refused P8 1:128\n", "main { fork many(B[0]); } data"),
+    (
+        "refused P6 1:133\n",
+        "main { if 0 {} else { v = 1; } } data",
+    ),
+    (
+        "refused P9 1:134\n",
+        "task u(x P) { fork one(P); } main {} data",
+    ),
+    (
+        "refused P9 1:134\n",
+        "task u(w P) { fork one(P); } main {} data",
+    ),
+    (
+        "refused P9 1:140\n",
+        "task u(cw(add) P) { fork one(P); } main {} data",
+    ),
+    (
+        "refused P9 1:135\n",
+        "task u(wp P) { fork one(P); } main {} data",
+    ),
+];
+
+// Programs behind those declarations that break none.
+const FINE: [&str; 9] = [
+    "task u(r P) { fork one(P); } main {} data",
+    "task u(rp P) { fork one(P); } main {} data",
+    "task u(xp P) { fork one(P); } main {} data",
+    "main { fork number(1); } data",
+    "main { fork one(A); } data",
+    "main { fork one(B[0]); } data",
+    "main { fork many(B); } data",
+    "main { fork many(B[0..1]); } data",
+    "main { fork each(3;); } data",
+];
+
+// The program behind those declarations is checked, and the answer begins so.
+fn checked(
+    rt: &impl Abort,
+    alloc: Global,
+    text: &str,
+    exit: Exit,
+    start: &str,
+) -> Result<(), Fail> {
+    let mut job = WORLD.as_bytes().to_vec(alloc)?;
+    job.extend_from_slice(text.as_bytes())?;
+    let mut source = MemSource::new(job, 100, Vec::new(alloc));
+    let mut sink = MemSink::new(alloc, 1_000, 100, Vec::new(alloc))?;
+    let found = top_plain(alloc, &words_of(alloc, "check")?, &mut source, &mut sink);
+    assert!(rt; found == exit, "{text}");
+    assert!(rt; sink.written().starts_with(start.as_bytes()), "{text}");
+    Ok(())
+}
+
+#[test]
+fn rules_are_answered(rt: HostRuntime) -> Result<(), Fail> {
+    for (answer, text) in BROKEN {
+        checked(&rt, rt.alloc(), text, Exit::Refused, answer)?;
+    }
+    for text in FINE {
+        checked(&rt, rt.alloc(), text, Exit::Done, "object A of 1;\n")?;
+    }
+    Ok(())
+}
+
+#[test]
+fn texts_are_printed(rt: HostRuntime) -> Result<(), Fail> {
+    let cases = [
+        answers("check", ROUND_TRIP, Exit::Done, CANONICAL),
+        answers("check", CANONICAL, Exit::Done, CANONICAL),
+    ];
+    end_whole(&rt, rt.alloc(), &cases)
+}
+
+#[test]
+fn streams_may_fail(rt: HostRuntime) -> Result<(), Fail> {
     let alloc = rt.alloc();
-    for words in ["", "run 2", "seq 1", "Seq"] {
-        let mut source = MemSource::new(Vec::new(alloc), 1, [1].to_vec(alloc)?);
-        let mut sink = MemSink::new(alloc, 10, 10, Vec::new(alloc))?;
-        let found = top_plain(alloc, &words_of(alloc, words)?, &mut source, &mut sink);
-        assert!(rt; found == Exit::NotBuilt, "{words}");
-        assert!(rt; sink.written() == b"not built\n".as_slice(), "{words}");
+    let whole = answers("seq", COUNTER, Exit::Done, "A[0] 42\n");
+    ends(&rt, alloc, &whole, (1, 1), (0, 0))?;
+    let unread = answers("seq", COUNTER, Exit::ReadFault, "");
+    for call in 1..=10 {
+        ends(&rt, alloc, &unread, (10, 100), (call, 0))?;
+    }
+    let unwritten = answers("seq", COUNTER, Exit::WriteFault, "A[0] ");
+    ends(&rt, alloc, &unwritten, (10, 5), (0, 2))?;
+    let refused = answers("seq", "@", Exit::WriteFault, "refus");
+    ends(&rt, alloc, &refused, (10, 5), (0, 2))
+}
+
+#[test]
+fn other_words_read_nothing(rt: HostRuntime) -> Result<(), Fail> {
+    let cases = [
+        answers("", "", Exit::Usage, "usage\n"),
+        answers("run 2", "", Exit::Usage, "usage\n"),
+        answers("demo scan 1 0 2", "", Exit::Usage, "usage\n"),
+        answers("seq 1", "", Exit::Usage, "usage\n"),
+        answers("Seq", "", Exit::Usage, "usage\n"),
+        answers("sim 9 1", "", Exit::Usage, "usage\n"),
+        answers("gen mul 26 0", "", Exit::Usage, "usage\n"),
+        answers("sim 3 7", "", Exit::NotBuilt, "not built\n"),
+        answers("gen scan 1 0", "", Exit::NotBuilt, "not built\n"),
+    ];
+    for case in &cases {
+        ends(&rt, rt.alloc(), case, (1, 10), (1, 0))?;
     }
     Ok(())
 }
@@ -127,16 +340,27 @@ fn other_words_read_nothing(rt: HostRuntime) -> Result<(), Fail> {
 #[test]
 fn a_job_of_one_byte_too_many(rt: HostRuntime) -> Result<(), Fail> {
     let alloc = rt.alloc();
-    for (blanks, exit) in [
-        (THIN_BYTES - 12, Exit::Done),
-        (THIN_BYTES - 11, Exit::NotBuilt),
-    ] {
-        let mut job = b"main {} data".to_vec(alloc)?;
-        job.extend_from_slice(&vec![in alloc; b' '; blanks]?)?;
-        let mut source = MemSource::new(job, 4096, Vec::new(alloc));
-        let mut sink = MemSink::new(alloc, 10, 10, Vec::new(alloc))?;
+    let mut job = b"main {} data".to_vec(alloc)?;
+    job.extend_from_slice(&vec![in alloc; b' '; JOB - 11]?)?;
+    let mut source = MemSource::new(job, 4096, Vec::new(alloc));
+    let mut sink = MemSink::new(alloc, 10, 10, Vec::new(alloc))?;
+    let found = top_plain(alloc, &words_of(alloc, "seq")?, &mut source, &mut sink);
+    assert!(rt; found == Exit::TooLong);
+    assert!(rt; sink.written() == b"too long\n".as_slice());
+    Ok(())
+}
+
+// However a job is cut off, it has one answer.
+#[test]
+fn jobs_cut_off(rt: HostRuntime) -> Result<(), Fail> {
+    let alloc = rt.alloc();
+    let whole = COUNTER.as_bytes();
+    for length in 0..whole.len() {
+        let mut source = MemSource::new(whole[..length].to_vec(alloc)?, 4096, Vec::new(alloc));
+        let mut sink = MemSink::new(alloc, 100, 100, Vec::new(alloc))?;
         let found = top_plain(alloc, &words_of(alloc, "seq")?, &mut source, &mut sink);
-        assert!(rt; found == exit, "{blanks}");
+        let refused = found == Exit::Refused || found == Exit::BadData;
+        assert!(rt; refused == (length < 91), "{length}");
     }
     Ok(())
 }

@@ -1,85 +1,83 @@
 // A whole call: words and bytes in, an exit and bytes out.
-ghost use Rattle.std.specs.Prelude.{◌≡◌, ◌≤◌, [], ◌∷◌, map, length, codes, false, string_bytes, IfOk};
-ghost use Rattle.kt_io.specs.Ending.{ForJob, Sends};
+ghost use Rattle.std.specs.Prelude.{◌≡◌, ◌≤◌, length, false};
+ghost use Rattle.kt_io.specs.Ending.{ForJob, Said, Sends};
 ghost use Rattle.kt_io.specs.Over.{over};
-ghost use Rattle.kaapi.specs.Answers.{faults};
-ghost use Rattle.kaapi.specs.Top.{EndsWithAnswer, RepliesTo, SendsOrLacks, is_seq};
+ghost use Rattle.kt_text.specs.Words.{command_of, texts_of};
+ghost use Rattle.kaapi.specs.Answers.{Answers, AnswersAsked, AnswersJob, asks_job, faults, told};
+ghost use Rattle.kaapi.specs.Top.{EndsWith, SendsOrLacks};
+ghost use Rattle.kaapi.specs.declared.exits.Exit.{Exit};
 
 use crate::exits::Exit;
-use crate::replies::Reply;
-use crate::thin::{THIN_BYTES, run_thin};
+use crate::jobs::{Asked, NOT_BUILT, reply_to};
 use kt_io::{ReadError, Sink, Source, read_all, write_all};
-use kt_law::NoMemory;
-use kt_read::rows_bytes;
+use kt_law::{JOB, NoMemory};
+use kt_print::{Line, line_bytes};
+use kt_text::{Command, Usage, read_words};
 use std::alloc::Global;
 
-const NOT_BUILT: &[u8] = b"not built\n";
-
 /// Answers the job that the source gives, as the words ask. The answer is whole before the first byte of it is written.
-/// Where the words are not the one word `seq`, the source is left alone.
+/// Where the words do not ask for an answer to a job, the source is left alone.
 pub fn top_plain<S: Source, K: Sink>(
     alloc: Global,
     words: &[String],
     source: &mut S,
     sink: &mut K,
 ) -> Exit
-    ensures answers { ForJob (S.left source.old) (λ job. EndsWithAnswer (map string_bytes words.now) job
+    ensures answers { ForJob (S.left source.old) (λ job. EndsWith (Answers (texts_of words.now) job)
         (over S.left S.faults source.old source.new) (over K.written K.faults sink.old sink.new) result) }
-    ensures unread { is_seq (map string_bytes words.now) ≡ false → source.new ≡ source.old }
+    ensures unread { asks_job (command_of (texts_of words.now)) ≡ false → source.new ≡ source.old }
     ensures source_later { S.faults source.old ≤ S.faults source.new }
     ensures sink_later { K.faults sink.old ≤ K.faults sink.new }
 {
-    if asks_run(words) {
-        run_source(alloc, source, sink)
-    } else {
-        send(sink, Exit::NotBuilt, NOT_BUILT)
+    match read_words(words) {
+        Ok(Command::Check) => answer_source(alloc, Asked::Check, source, sink),
+        Ok(Command::Seq) => answer_source(alloc, Asked::Seq, source, sink),
+        Ok(Command::Sim(..)) => send(sink, Exit::NotBuilt, NOT_BUILT),
+        Ok(Command::Gen(..)) => send(sink, Exit::NotBuilt, NOT_BUILT),
+        Ok(Command::Run(_)) => tell(alloc, Exit::Usage, &Line::Usage, sink),
+        Ok(Command::Demo(..)) => tell(alloc, Exit::Usage, &Line::Usage, sink),
+        Err(Usage) => tell(alloc, Exit::Usage, &Line::Usage, sink),
     }
 }
 
-fn asks_run(words: &[String]) -> bool
-    ensures { result ≡ is_seq (map string_bytes words.now) }
-{
-    let [word] = words else {
-        return false;
-    };
-    word.as_str() == "seq"
-}
-
-fn run_source<S: Source, K: Sink>(alloc: Global, source: &mut S, sink: &mut K) -> Exit
-    ensures answers { ForJob (S.left source.old) (λ job. EndsWithAnswer (codes "seq" ∷ []) job
+fn answer_source<S: Source, K: Sink>(
+    alloc: Global,
+    asked: Asked,
+    source: &mut S,
+    sink: &mut K,
+) -> Exit
+    ensures answers { ForJob (S.left source.old) (λ job. EndsWith (AnswersJob asked job)
         (over S.left S.faults source.old source.new) (over K.written K.faults sink.old sink.new) result) }
     ensures source_later { S.faults source.old ≤ S.faults source.new }
     ensures sink_later { K.faults sink.old ≤ K.faults sink.new }
 {
-    match read_all(alloc, source, THIN_BYTES) {
-        Ok(job) => answer_job(alloc, &job, sink),
+    match read_all(alloc, source, JOB) {
+        Ok(job) => answer_job(alloc, asked, &job, sink),
         Err(ReadError::Failed) => Exit::ReadFault,
-        Err(ReadError::TooLong) => send(sink, Exit::NotBuilt, NOT_BUILT),
+        Err(ReadError::TooLong) => tell(alloc, Exit::TooLong, &Line::TooLong, sink),
         Err(ReadError::NoMemory) => Exit::NoMemory,
     }
 }
 
-fn answer_job<K: Sink>(alloc: Global, job: &[u8], sink: &mut K) -> Exit
-    requires { length job.now ≤ THIN_BYTES }
-    ensures sent { SendsOrLacks job.now (over K.written K.faults sink.old sink.new) result }
+fn answer_job<K: Sink>(alloc: Global, asked: Asked, job: &[u8], sink: &mut K) -> Exit
+    requires { length job.now ≤ JOB }
+    ensures sent { SendsOrLacks (AnswersAsked asked job.now) (over K.written K.faults sink.old sink.new) result }
     ensures later { K.faults sink.old ≤ K.faults sink.new }
 {
-    match reply_to(alloc, job) {
+    match reply_to(alloc, asked, job) {
         Ok(reply) => send(sink, reply.exit(), reply.text()),
         Err(NoMemory) => Exit::NoMemory,
     }
 }
 
-fn reply_to(alloc: Global, job: &[u8]) -> Result<Reply, NoMemory>
-    requires { length job.now ≤ THIN_BYTES }
-    ensures { IfOk result (RepliesTo job.now) }
+// Writes an answer of one line.
+fn tell<K: Sink>(alloc: Global, exit: Exit, line: &Line, sink: &mut K) -> Exit
+    ensures sent { SendsOrLacks (λ (reply : Said Exit). reply ≡ told exit line.now) (over K.written K.faults sink.old sink.new) result }
+    ensures later { K.faults sink.old ≤ K.faults sink.new }
 {
-    match run_thin(alloc, job)? {
-        Some(done) => {
-            let text = rows_bytes(alloc, &done.program, &done.rows)?;
-            Ok(Reply::new(Exit::Done, text))
-        }
-        None => Ok(Reply::new(Exit::NotBuilt, Vec::from_slice(alloc, NOT_BUILT)?)),
+    match line_bytes(alloc, line) {
+        Ok(text) => send(sink, exit, &text),
+        Err(NoMemory) => Exit::NoMemory,
     }
 }
 

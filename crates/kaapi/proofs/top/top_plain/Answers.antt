@@ -1,14 +1,50 @@
-use Rattle.std.proofs.Common.{refl, sym, ◌∙◌}
-use Rattle.kaapi.specs.Top.Answers.{to_others}
-use Rattle.kaapi.specs.Top.EndsWithAnswer.{answered}
-use Rattle.kaapi.specs.Answers.{not_built}
-use Rattle.kaapi.proofs.Endings.{for_any_job, for_job_then, of_words}
+use Rattle.std.proofs.Common.{◌≡◌, refl, sym, ap, ◌∙◌, Some, None}
+use Rattle.std.specs.Result.{result_ok}
+use Rattle.kt_io.specs.Ending.{Said}
+use Rattle.kt_print.specs.declared.lines.Line.TheVariants as L
+use Rattle.kt_text.specs.Words.{texts_of}
+use Rattle.kt_text.specs.declared.commands.Command.TheVariants as C
+use Rattle.kaapi.specs.Answers.{AnswersCommand, not_built, told}
+use Rattle.kaapi.specs.Top.EndsWith.{answered}
+use Rattle.kaapi.specs.declared.exits.Exit.{Exit}
+use Rattle.kaapi.specs.declared.exits.Exit.TheVariants as E
+use Rattle.kaapi.proofs.Endings.{ends, for_any_job, for_job_then, of_command}
 use Rattle.kaapi.proofs.top.top_plain.Goals as goal
 
-pub returns-then-asks_run-clause-answers : goal.returns-then-asks_run-clause-answers
-returns-then-asks_run-clause-answers g c =
-    for_job_then _ _ _ (λ job ends. of_words _ _ job _ _ _ refl (sym c.asks_run.ensures ∙ c.if-asks_run.true) ends) c.run_source.ensures.answers
+pub returns-in-Ok-Check-clause-answers : goal.returns-in-Ok-Check-clause-answers
+returns-in-Ok-Check-clause-answers g c =
+    let same = sym (ap Some c.in-Ok-Check.field-0-is) ∙ sym (ap result_ok c.in-Ok-Check.is) ∙ c.read_words.ensures in
+    for_job_then _ _ _ (λ job h. of_command (texts_of c.args.words.now) job _ _ _ (Some C.Check) same h) c.answer_source.ensures.answers
 
-pub returns-else-asks_run-clause-answers : goal.returns-else-asks_run-clause-answers
-returns-else-asks_run-clause-answers g c =
-    for_any_job _ _ (λ job. answered not_built (to_others (sym c.asks_run.ensures ∙ c.if-asks_run.false) refl) c.send.ensures.sent)
+pub returns-in-Ok-Seq-clause-answers : goal.returns-in-Ok-Seq-clause-answers
+returns-in-Ok-Seq-clause-answers g c =
+    let same = sym (ap Some c.in-Ok-Seq.field-0-is) ∙ sym (ap result_ok c.in-Ok-Seq.is) ∙ c.read_words.ensures in
+    for_job_then _ _ _ (λ job h. of_command (texts_of c.args.words.now) job _ _ _ (Some C.Seq) same h) c.answer_source-in-Ok-Seq.ensures.answers
+
+pub returns-in-Ok-Sim-clause-answers : goal.returns-in-Ok-Sim-clause-answers
+returns-in-Ok-Sim-clause-answers g c =
+    let same = sym (ap Some c.in-Ok-Sim.field-0-is) ∙ sym (ap result_ok c.in-Ok-Sim.is) ∙ c.read_words.ensures in
+    for_any_job _ _ (λ job. of_command (texts_of c.args.words.now) job _ _ _ _ same (answered not_built refl c.send.ensures.sent))
+
+pub returns-in-Ok-Gen-clause-answers : goal.returns-in-Ok-Gen-clause-answers
+returns-in-Ok-Gen-clause-answers g c =
+    let same = sym (ap Some c.in-Ok-Gen.field-0-is) ∙ sym (ap result_ok c.in-Ok-Gen.is) ∙ c.read_words.ensures in
+    for_any_job _ _ (λ job. of_command (texts_of c.args.words.now) job _ _ _ _ same (answered not_built refl c.send-in-Ok-Gen.ensures.sent))
+
+pub returns-in-Ok-Run-clause-answers : goal.returns-in-Ok-Run-clause-answers
+returns-in-Ok-Run-clause-answers g c =
+    let same = sym (ap Some c.in-Ok-Run.field-0-is) ∙ sym (ap result_ok c.in-Ok-Run.is) ∙ c.read_words.ensures in
+    for_any_job _ _ (λ job. of_command (texts_of c.args.words.now) job _ _ _ _ same
+    (ends (λ (reply : Said Exit). reply ≡ told E.Usage L.Usage) _ _ _ _ (λ reply is. is) c.tell.ensures.sent))
+
+pub returns-in-Ok-Demo-clause-answers : goal.returns-in-Ok-Demo-clause-answers
+returns-in-Ok-Demo-clause-answers g c =
+    let same = sym (ap Some c.in-Ok-Demo.field-0-is) ∙ sym (ap result_ok c.in-Ok-Demo.is) ∙ c.read_words.ensures in
+    for_any_job _ _ (λ job. of_command (texts_of c.args.words.now) job _ _ _ _ same
+    (ends (λ (reply : Said Exit). reply ≡ told E.Usage L.Usage) _ _ _ _ (λ reply is. is) c.tell-in-Ok-Demo.ensures.sent))
+
+pub returns-in-Err-clause-answers : goal.returns-in-Err-clause-answers
+returns-in-Err-clause-answers g c =
+    let same = sym (ap result_ok c.in-Err.is) ∙ c.read_words.ensures in
+    for_any_job _ _ (λ job. of_command (texts_of c.args.words.now) job _ _ _ None same
+    (ends (λ (reply : Said Exit). reply ≡ told E.Usage L.Usage) _ _ _ _ (λ reply is. is) c.tell-in-Err.ensures.sent))

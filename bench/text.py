@@ -1,0 +1,87 @@
+#!/usr/bin/env python3
+"""How fast texts are read, checked and printed, in MB a second of text.
+
+    bench/text.py [PROGRAM]        PROGRAM is crates/kaapi/out/kaapi where none is given
+
+Outside the gate. Each job is written to a file and given to `kaapi check`:
+  read     the last token before `data` is wrong, so that reading is all that is done
+  check    the last statement breaks a rule, so that the whole program is read and checked
+  print    the program is accepted, and its canonical text is written
+  forks    as `check`, a text of forks, each of which looks up a task and an object
+  blocks   as `check`, one block of all statements, in which the names are looked up
+Sizes double, so that a time that is not linear shows. At last `kaapi seq` reads 2^20 numbers and writes their rows."""
+import pathlib, subprocess, sys, tempfile, time
+
+TOP = pathlib.Path(__file__).resolve().parent.parent
+LINE = "  P[3] = P[1] + v * 7 - satadd(P[2], min(v, 41));\n  for i in 0..v {\n    let w = i % 5;\n    P[i] = w;\n  }\n"
+
+
+def tasks(size):
+    """1,024 tasks, in all of about so many bytes."""
+    body = LINE * max(1, size // 1024 // len(LINE))
+    return "object A of 64;\n" + "".join(f"task t{k}(int v, x P) {{\n{body}}}\n" for k in range(1024))
+
+
+def forks(size):
+    """main forks 1,023 tasks on 4,000 objects."""
+    heads = "".join(f"object A{k} of 1;\n" for k in range(4000)) + "".join(f"task t{k}(int v, x P) {{}}\n" for k in range(1023))
+    line = "  fork t{}({}, A{});\n"
+    out, length, k = [], len(heads), 0
+    while length < size:
+        text = line.format(k * 7 % 1023, k, k * 11 % 4000)
+        out.append(text)
+        length += len(text)
+        k += 1
+    return heads + "main {\n" + "".join(out)
+
+
+def blocks(size):
+    """One block of statements, with 60 names before them."""
+    names = "".join(f"  let name{k} = {k};\n" for k in range(60))
+    line = "  name1 = name59 + name0 * name30;\n"
+    return "main {\n" + names + line * (size // len(line))
+
+
+def jobs(size):
+    yield "read", tasks(size) + "main {} }\ndata\n"
+    yield "check", tasks(size) + "main { nothing = 1; }\ndata\n"
+    yield "print", tasks(size) + "main {}\ndata\n"
+    yield "forks", forks(size) + "  nothing = 1;\n}\ndata\n"
+    yield "blocks", blocks(size) + "  nothing = 1;\n}\ndata\n"
+
+
+def data():
+    """As many numbers as a job may have, which are written again."""
+    numbers = "".join(f"{k * 0x9E3779B97F4A7C15 % 2**64}\n" for k in range(1 << 20))
+    return "object A[256] of 4096 input output;\nmain {}\ndata\n" + numbers
+
+
+def seconds(program, path, word="check"):
+    best = None
+    for _ in range(3):
+        with open(path, "rb") as job:
+            start = time.perf_counter()
+            subprocess.run([program, word], stdin=job, stdout=subprocess.DEVNULL, check=False)
+            took = time.perf_counter() - start
+        best = took if best is None else min(best, took)
+    return best
+
+
+def main():
+    program = sys.argv[1] if len(sys.argv) > 1 else str(TOP / "crates/kaapi/out/kaapi")
+    for megabytes in (4, 8, 16, 32):
+        for name, text in jobs(megabytes * 1_000_000):
+            with tempfile.NamedTemporaryFile("w") as job:
+                job.write(text)
+                job.flush()
+                took = seconds(program, job.name)
+            print(f"{name:7} {len(text) / 1e6:5.1f} MB {took:7.2f} s {len(text) / 1e6 / took:7.1f} MB/s", flush=True)
+    text = data()
+    with tempfile.NamedTemporaryFile("w") as job:
+        job.write(text)
+        job.flush()
+        took = seconds(program, job.name, "seq")
+    print(f"data    {len(text) / 1e6:5.1f} MB {took:7.2f} s {len(text) / 1e6 / took:7.1f} MB/s", flush=True)
+
+
+main()

@@ -1,0 +1,46 @@
+-- How a job's reply is an answer.
+use Rattle.std.proofs.Common.{◌≡◌, ℕ, List, [], true, false, Some, None, Result, Ok, Err, refl, ap, sym, subst, ◌∙◌}
+use Rattle.std.specs.Prelude.{IfOk}
+use Rattle.kt_io.specs.Ending.{Said}
+use Rattle.kt_law.specs.declared.places.Refusal.{Refusal}
+use Rattle.kt_prog.specs.Accepted.{IsAccepted}
+use Rattle.kt_frames.specs.OnlyTasks.{only_tasks}
+use Rattle.kt_prog.specs.Refusals.{refusal_of, noted}
+use Rattle.kt_prog.specs.declared.programs.Program.{Program}
+use Rattle.kt_print.specs.declared.lines.Line.{Line}
+use Rattle.kt_read.specs.Answers.{Answered, IsAnswer, IsRefused, answered_line}
+use Rattle.kt_read.specs.Answers.IsRefused.{unread, broken}
+use Rattle.kt_read.specs.Jobs.{IsJob}
+use Rattle.kt_read.specs.Laws.{OneJob, JobIsRead}
+use Rattle.kaapi.specs.Answers.{told}
+use Rattle.kaapi.specs.Exits.{number_of}
+use Rattle.kaapi.specs.declared.exits.Exit.{Exit}
+
+-- what follows for each value
+pub ok_then : {A E : Type 0} (r : Result A E) (P Q : A → Type 0) → IfOk r P → ((a : A) → P a → Q a) → IfOk r Q
+ok_then (Ok a) P Q h f = f a h
+ok_then (Err e) P Q h f = tt
+
+abbrev pub answered_by : Said Exit → Answered
+answered_by reply = record { status = number_of reply.exit; text = reply.text }
+
+pub of_line : (bytes : List ℕ) (exit : Exit) (line : Line) (reply : Said Exit) → IsAnswer bytes (answered_line (number_of exit) line) → reply ≡ told exit line →
+    IsAnswer bytes (answered_by reply)
+of_line bytes exit line reply answer same = subst (IsAnswer bytes) (sym (ap answered_by same)) answer
+
+pub not_accepted : (p : Program) (r : Refusal) → refusal_of p ≡ Some r → IsAccepted p → ⊥
+not_accepted p r refused accepted =
+    let none = ap (noted None) accepted in
+    let both : None ≡ Some r = sym none ∙ refused in
+    cc
+
+-- a job that is refused has no accepted program
+pub never_accepted : OneJob → JobIsRead → (bytes : List ℕ) (r : Refusal) → IsRefused bytes r → (p : Program) (from : ℕ) → IsJob bytes p from → IsAccepted p → ⊥
+never_accepted one_job is_read bytes r (unread h) p from job accepted = is_read bytes p from r job h
+never_accepted one_job is_read bytes r (broken {p = q} {from = place} other h) p from job accepted =
+    let same = (one_job bytes p q from place job other).0 in
+    not_accepted q r h (subst IsAccepted same accepted)
+
+pub same_kind : OneJob → (bytes : List ℕ) (p q : Program) (from place : ℕ) → IsJob bytes p from → only_tasks p ≡ true → IsJob bytes q place → only_tasks q ≡ true
+same_kind one_job bytes p q from place job only other =
+    subst (λ p. only_tasks p ≡ true) (one_job bytes p q from place job other).0 only

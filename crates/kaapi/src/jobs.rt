@@ -1,0 +1,152 @@
+// What a job is answered, made whole before any of it is written.
+ghost use Rattle.std.specs.Prelude.{◌≡◌, ◌≤◌, length, IfOk};
+ghost use Rattle.kt_prog.specs.Accepted.{IsAccepted};
+ghost use Rattle.kt_prog.specs.Objects.{inputs_of};
+ghost use Rattle.kt_frames.specs.OnlyTasks.{HasOnlyTasks};
+ghost use Rattle.kt_prog.specs.Outcome.{outcome_of};
+ghost use Rattle.kt_read.specs.Answers.{IsAnswer, answered_run};
+ghost use Rattle.kt_read.specs.Jobs.{IsJob};
+ghost use Rattle.kaapi.specs.Answers.{AnswersAsked, AnswersCheck, AnswersSeq, not_built, told};
+ghost use Rattle.kaapi.specs.Exits.{number_of};
+ghost use Rattle.kaapi.specs.Jobs.{IsOpened};
+
+use crate::exits::Exit;
+use crate::replies::Reply;
+use kt_frames::{has_only_tasks, run_owner};
+use kt_law::{JOB, NoMemory, Refusal};
+use kt_print::{Line, line_bytes, print_program, rows_bytes};
+use kt_prog::laws::few_objects;
+use kt_prog::{Outcome, Program, check, inputs};
+use kt_read::laws::{job_is_read, one_job};
+use kt_read::{ReadRefusal, read_program};
+use kt_text::{DataError, read_data};
+use std::alloc::Global;
+
+/// What is asked for a job.
+#[derive(Clone, Copy, Debug, PartialEq, Eq)]
+pub enum Asked {
+    /// Its canonical text.
+    Check,
+    /// Its run in reference order.
+    Seq,
+}
+
+/// A job that was read and checked.
+#[derive(Drop)]
+pub enum Opened {
+    /// Its program, and where its data begin.
+    Accepted(Program, usize),
+    Refused(Refusal),
+}
+
+/// The line that is written for a job, or for words, of which nothing is built.
+pub const NOT_BUILT: &[u8] = b"not built\n";
+
+/// The reply to a job.
+pub fn reply_to(alloc: Global, asked: Asked, job: &[u8]) -> Result<Reply, NoMemory>
+    requires { length job.now ≤ JOB }
+    ensures { IfOk result (AnswersAsked asked job.now) }
+{
+    match asked {
+        Asked::Check => reply_to_check(alloc, job),
+        Asked::Seq => reply_to_seq(alloc, job),
+    }
+}
+
+fn open(alloc: Global, job: &[u8]) -> Result<Opened, NoMemory>
+    requires { length job.now ≤ JOB }
+    ensures { IfOk result (IsOpened job.now) }
+{
+    let (program, from) = match read_program(alloc, job) {
+        Ok(read) => read,
+        Err(ReadRefusal::Refused(refusal)) => return Ok(Opened::Refused(refusal)),
+        Err(ReadRefusal::NoMemory) => return Err(NoMemory),
+    };
+    match check(&program) {
+        Ok(()) => Ok(Opened::Accepted(program, from)),
+        Err(refusal) => Ok(Opened::Refused(refusal)),
+    }
+}
+
+fn reply_to_check(alloc: Global, job: &[u8]) -> Result<Reply, NoMemory>
+    requires { length job.now ≤ JOB }
+    ensures { IfOk result (AnswersCheck job.now) }
+{
+    match open(alloc, job)? {
+        Opened::Refused(refusal) => reply_with(alloc, Exit::Refused, &Line::Refused(refusal)),
+        Opened::Accepted(program, _) => {
+            let text = print_program(alloc, &program)?;
+            Ok(Reply::new(Exit::Done, text))
+        }
+    }
+}
+
+fn reply_to_seq(alloc: Global, job: &[u8]) -> Result<Reply, NoMemory>
+    requires { length job.now ≤ JOB }
+    ensures { IfOk result (AnswersSeq job.now) }
+{
+    one_job();
+    job_is_read();
+    match open(alloc, job)? {
+        Opened::Refused(refusal) => reply_with(alloc, Exit::Refused, &Line::Refused(refusal)),
+        Opened::Accepted(program, from) => {
+            if has_only_tasks(&program) {
+                reply_to_run(alloc, job, &program, from)
+            } else {
+                Ok(Reply::new(Exit::NotBuilt, Vec::from_slice(alloc, NOT_BUILT)?))
+            }
+        }
+    }
+}
+
+// The data, and then the run.
+fn reply_to_run(
+    alloc: Global,
+    job: &[u8],
+    program: &Program,
+    from: usize,
+) -> Result<Reply, NoMemory>
+    requires short { length job.now ≤ JOB }
+    requires within { from ≤ length job.now }
+    requires reads { IsJob job.now program.now from }
+    requires accepted { IsAccepted program.now }
+    requires tasks { HasOnlyTasks program.now }
+    ensures { IfOk result (λ reply. IsAnswer job.now (record { status = number_of reply.exit; text = reply.text })) }
+{
+    few_objects();
+    match read_data(alloc, job, from, inputs(program)) {
+        Ok(input) => run(alloc, program, &input),
+        Err(DataError::BadNumber(place)) => {
+            reply_with(alloc, Exit::BadData, &Line::BadNumber(place))
+        }
+        Err(DataError::TooFew(found, wanted)) => {
+            reply_with(alloc, Exit::BadData, &Line::TooFew(found, wanted))
+        }
+        Err(DataError::TooMany(place)) => reply_with(alloc, Exit::BadData, &Line::TooMany(place)),
+        Err(DataError::NoMemory) => Err(NoMemory),
+    }
+}
+
+fn run(alloc: Global, program: &Program, input: &[u64]) -> Result<Reply, NoMemory>
+    requires accepted { IsAccepted program.now }
+    requires tasks { HasOnlyTasks program.now }
+    requires whole { length input.now ≡ inputs_of program.now.families }
+    ensures { IfOk result (λ reply. record { status = number_of reply.exit; text = reply.text } ≡ answered_run program.now.families (outcome_of program.now input.now).outcome) }
+{
+    few_objects();
+    match run_owner(alloc, program, input)?.outcome {
+        Outcome::Rows(rows) => {
+            let text = rows_bytes(alloc, program, rows.as_slice())?;
+            Ok(Reply::new(Exit::Done, text))
+        }
+        Outcome::Fault(fault) => reply_with(alloc, Exit::Fault, &Line::Fault(fault)),
+        Outcome::Limit => reply_with(alloc, Exit::Limit, &Line::Limit),
+    }
+}
+
+fn reply_with(alloc: Global, exit: Exit, line: &Line) -> Result<Reply, NoMemory>
+    ensures { IfOk result (λ reply. reply ≡ told exit line.now) }
+{
+    let text = line_bytes(alloc, line)?;
+    Ok(Reply::new(exit, text))
+}
