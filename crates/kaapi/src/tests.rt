@@ -34,6 +34,13 @@ const ALIAS: &str =
 const FIRST_FAULT: &str =
     "object Z of 1;\ntask slow(x P) { for i in 0..1000 { P[0] = i; } P[0] = 1 / 0; }\ntask fast(int v) { let q = v / 0; }\nmain { fork slow(Z); fork fast(1); }\ndata\n";
 
+const PAST_THE_END: &str =
+    "object A of 2 output;\ntask set(x P) { P[1] = 6; P[2] = 7; }\nmain { fork set(A); }\ndata\n";
+
+// The child does not run before the rest of the body, and its fault comes behind that of its parent.
+const PARENT_FAULT: &str =
+    "task child() { let q = 1 / 0; }\ntask parent() { fork child(); let q = 1 / 0; }\nmain { fork parent(); }\ndata\n";
+
 const MANY: &str =
     "object A of 1 output;\ntask one(cw(add) P) { P[0] add= 1; }\nmain { for i in 0..16383 { fork one(A); } }\ndata\n";
 
@@ -133,6 +140,8 @@ fn runs_end_in_faults_and_limits(rt: HostRuntime) -> Result<(), Fail> {
     let cases = [
         answers("seq", ALIAS, Exit::Fault, "fault F4 main line 3\n"),
         answers("seq", FIRST_FAULT, Exit::Fault, "fault F1 1 line 2\n"),
+        answers("seq", PAST_THE_END, Exit::Fault, "fault F2 1 line 2\n"),
+        answers("seq", PARENT_FAULT, Exit::Fault, "fault F1 1 line 2\n"),
         answers("seq", TOO_MANY, Exit::Limit, "limit\n"),
         answers("seq", A_LOOP, Exit::NotBuilt, "not built\n"),
         answers("seq", A_KERNEL, Exit::NotBuilt, "not built\n"),
