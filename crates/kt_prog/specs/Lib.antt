@@ -31,3 +31,4 @@ pub mod Laws
 pub mod Lets
 pub mod Chains
 pub mod Sights
+pub mod Late

@@ -4,6 +4,7 @@
 mod calls;
 mod checks;
 mod counts;
+mod faults;
 pub mod laws;
 mod names;
 mod programs;

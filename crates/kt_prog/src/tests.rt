@@ -1,8 +1,11 @@
 ghost use Rattle.std.specs.Prelude.{◌≡◌, ◌<◌, ◌^◌, IfOk};
 ghost use Rattle.kt_prog.specs.Objects.{elements_of, objects_of};
 
-use crate::{Family, NAMES, Name, PATH, Program, elements, first_element, inputs, objects, width};
-use kt_law::Place;
+use crate::{
+    Family, FaultAt, NAMES, Name, PATH, Program, elements, first_element, inputs, objects, width,
+};
+use arrayvec::ArrayVec;
+use kt_law::{F, Place};
 use sqlite_items::Items;
 use std::alloc::{AllocError, Global};
 
@@ -66,4 +69,29 @@ fn members_are_numbered_in_the_order_of_the_text(rt: HostRuntime) -> Result<(), 
         assert_eq!(rt; width(&program, object), count);
     }
     Ok(())
+}
+
+// of task 2, or of a child of it
+fn fault(child: Option<u32>, index: Option<u32>) -> FaultAt {
+    let mut path = ArrayVec::new();
+    path.push(2);
+    match child {
+        Some(n) => path.push(n),
+        None => {}
+    }
+    FaultAt {
+        path,
+        index,
+        fault: F::F1,
+        line: 7,
+    }
+}
+
+#[test]
+fn faults_come_by_path_and_then_by_index(rt: HostRuntime) {
+    let here = fault(None, None);
+    assert!(rt; here.is_before(&fault(None, Some(0))));
+    assert!(rt; fault(None, Some(3)).is_before(&fault(Some(1), None)));
+    assert!(rt; fault(Some(1), None).is_before(&fault(Some(2), None)));
+    assert!(rt; !fault(Some(1), None).is_before(&here) && !here.is_before(&here));
 }

@@ -1,18 +1,32 @@
 // The rules of arguments.
 
 ghost use Rattle.std.specs.Prelude.{◌≡◌, length};
-ghost use Rattle.kt_prog.specs.Rules.{rules_of};
+ghost use Rattle.kt_prog.specs.Rules.{rules_of, unknown_name};
+ghost use Rattle.kt_prog.specs.Scope.{kind_of};
 ghost use Rattle.kt_prog.specs.ForkRules.{wants_other, wants_one, wants_many, one_rule, many_rule, argument_rule};
 ghost use Rattle.kt_prog.specs.Refusals.{noted};
 ghost use Rattle.kt_prog.specs.declared.programs.Expr.{out-Expr};
 ghost use Rattle.kt_prog.specs.Sights.{scope_of, wants_span};
 
 use super::exprs::check_expr;
+use super::late::{is_argument_late, is_late};
 use super::least::{note, note_if};
 use super::names::{Sight, kind_at};
+use crate::names::Name;
 use crate::programs::{Arg, ArgWhat, Expr, Sort};
 use crate::sight::Kind;
 use kt_law::{Mode, P, Place, Refusal, hands_on};
+
+/// Notes the name where it isn't in sight.
+#[tactic(auto, using(crate::proofs::Late::denied_late))]
+pub fn check_known(sight: &Sight, name: &Name, place: Place, found: &mut Option<Refusal>)
+    ensures { found.new ≡ noted found.old (unknown_name (kind_of (scope_of sight.now) name.now) place) }
+{
+    if is_late(found, place) {
+        return;
+    }
+    note_if(found, place, P::P6, kind_at(sight, name).is_none());
+}
 
 /// Notes the names of the expression that aren't in sight.
 pub fn check_names(sight: &Sight, e: &Expr, found: &mut Option<Refusal>)
@@ -21,10 +35,10 @@ pub fn check_names(sight: &Sight, e: &Expr, found: &mut Option<Refusal>)
     match e {
         Expr::Num(_) => {}
         Expr::Var(name, place) => {
-            note_if(found, *place, P::P6, kind_at(sight, name).is_none());
+            check_known(sight, name, *place, found);
         }
         Expr::Elem(name, place, at) => {
-            note_if(found, *place, P::P6, kind_at(sight, name).is_none());
+            check_known(sight, name, *place, found);
             check_names(sight, at.get(), found);
         }
         Expr::Bin(_, a, b) => {
@@ -110,9 +124,13 @@ fn check_many(sight: &Sight, at: Place, want: Mode, e: &Expr, found: &mut Option
 }
 
 /// Notes what an argument breaks of the parameter's sort.
+#[tactic(auto, using(crate::proofs::Late::argument_is_late))]
 pub fn check_argument(sight: &Sight, sort: Sort, arg: &Arg, found: &mut Option<Refusal>)
     ensures { found.new ≡ noted found.old (argument_rule arg.now.place sort (scope_of sight.now) arg.now.what) }
 {
+    if is_argument_late(found, arg) {
+        return;
+    }
     match &arg.what {
         ArgWhat::Value(e) => match sort {
             Sort::Int => check_expr(sight, e, found),

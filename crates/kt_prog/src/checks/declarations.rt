@@ -7,6 +7,7 @@ ghost use Rattle.kt_prog.specs.Refusals.{noted};
 ghost use Rattle.kt_prog.specs.Sights.{declared_family, declared_task};
 
 use super::directories::Directory;
+use super::late::is_late;
 use super::least::{note, note_if};
 use crate::names::Name;
 use crate::programs::{Family, Main, Task};
@@ -19,9 +20,13 @@ fn is_kernel(name: &Name) -> bool
     "k_mul" == name || "k_minplus" == name || "k_stencil" == name || "k_scan" == name
 }
 
+#[tactic(auto, using(crate::proofs::Late::name_late))]
 fn check_name(program: &Directory, name: &Name, place: Place, found: &mut Option<Refusal>)
     ensures { found.new ≡ noted found.old (names_twice (declared_in program.now) (record { name = name.now; place = place } ∷ [])) }
 {
+    if is_late(found, place) {
+        return;
+    }
     let taken = is_kernel(name) || program.is_declared_before(name, place);
     note_if(found, place, P::P5, taken);
 }

@@ -1,12 +1,14 @@
 // Programs with their declarations in reach.
-ghost use Rattle.std.specs.Prelude.{◌≡◌, ◌<◌, drop, get_or, length, map, suc, true};
+ghost use Rattle.std.specs.Prelude.{◌≡◌, ◌&&◌, ◌<◌, drop, get_or, length, map, not, suc, true};
 ghost use Rattle.std.specs.Str.{bytes_eq};
-ghost use Rattle.kt_prog.specs.Declarations.{declared_in, is_earlier};
+ghost use Rattle.kt_prog.specs.Declarations.{declared_in, is_earlier, place_before};
 ghost use Rattle.kt_prog.specs.Scope.{family_known};
 ghost use Rattle.kt_prog.specs.Targets.{task_named};
 ghost use Rattle.kt_prog.specs.declared.programs.Task.{Task};
 
 use super::chains::{Chains, family_chains, task_chains};
+use super::late::{are_families_from, are_tasks_from};
+use super::least::is_before;
 use super::lookups::{family_kind, is_family_before, is_task_before, task_at};
 use crate::names::Name;
 use crate::programs::{Family, Program, Task};
@@ -20,10 +22,14 @@ pub struct Directory<'a> {
     program: &'a Program,
     families: Chains,
     tasks: Chains,
+    from: Place,
+    /// Whether no declaration out of reach stands before `from`.
+    is_from: bool,
 }
 
 impl<'a> Model for Directory<'a> {
-    ghost use Rattle.std.specs.Prelude.{◌≡◌, ◌≤◌, length, map, take};
+    ghost use Rattle.std.specs.Prelude.{◌≡◌, ◌≤◌, drop, length, map, take, true};
+    ghost use Rattle.kt_prog.specs.Late.{families_from, tasks_from};
     ghost use Rattle.kt_prog.specs.Chains.{hash_family, hash_task};
     ghost use Rattle.kt_prog.specs.declared.checks.chains.TheConstants.{COVERED};
     ghost use Rattle.kt_prog.specs.declared.programs.Program.{Program};
@@ -39,17 +45,32 @@ impl<'a> Model for Directory<'a> {
     ghost view = { λ d. d.program.now };
 
     ghost invariant = { λ d. (d.families ≡ take COVERED (map hash_family d.program.now.families)) × (length d.families ≤ length d.program.now.families)
-        × (d.tasks ≡ take COVERED (map hash_task d.program.now.tasks)) × (length d.tasks ≤ length d.program.now.tasks) };
+        × (d.tasks ≡ take COVERED (map hash_task d.program.now.tasks)) × (length d.tasks ≤ length d.program.now.tasks)
+        × (d.is_from ≡ true → families_from d.from (drop (length d.families) d.program.now.families) ≡ true)
+        × (d.is_from ≡ true → tasks_from d.from (drop (length d.tasks) d.program.now.tasks) ≡ true) };
+}
+
+fn is_reached(is_from: bool, from: Place, place: Place) -> bool
+    ensures { result ≡ (is_from && not (place_before from place)) }
+{
+    is_from && !is_before(from, place)
 }
 
 impl<'a> Directory<'a> {
-    pub fn of(program: &'a Program) -> Directory<'a>
+    /// Where no declaration out of reach stands before `from`, they are passed over at places up to it.
+    pub fn of(program: &'a Program, from: Place) -> Directory<'a>
         ensures { result ≡ program.now }
     {
+        let families = family_chains(program.families.as_slice());
+        let tasks = task_chains(program.tasks.as_slice());
+        let is_from = are_families_from(&program.families.as_slice()[families.len()..], from)
+            && are_tasks_from(&program.tasks.as_slice()[tasks.len()..], from);
         Directory {
             program,
-            families: family_chains(program.families.as_slice()),
-            tasks: task_chains(program.tasks.as_slice()),
+            families,
+            tasks,
+            from,
+            is_from,
         }
     }
 
@@ -87,11 +108,19 @@ impl<'a> Directory<'a> {
     pub fn is_declared_before(&self, name: &Name, place: Place) -> bool
         ensures { result ≡ is_earlier (declared_in self.now) (record { name = name.now; place = place }) }
     {
+        let reached = is_reached(self.is_from, self.from, place);
         is_family_before(
             self.program.families.as_slice(),
             &self.families,
+            reached,
             name,
             place,
-        ) || is_task_before(self.program.tasks.as_slice(), &self.tasks, name, place)
+        ) || is_task_before(
+            self.program.tasks.as_slice(),
+            &self.tasks,
+            reached,
+            name,
+            place,
+        )
     }
 }

@@ -5,10 +5,11 @@ ghost use Rattle.kt_prog.specs.Targets.{is_loop_of, kernel, target, target_of, t
 ghost use Rattle.kt_prog.specs.Refusals.{noted};
 ghost use Rattle.kt_prog.specs.Sights.{scope_of, sort_of};
 
-use super::arguments::{check_argument, check_names};
+use super::arguments::{check_argument, check_known, check_names};
 use super::exprs::check_expr;
+use super::late::is_fork_late;
 use super::least::{note, note_if};
-use super::names::{Sight, kind_at};
+use super::names::Sight;
 use crate::names::Name;
 use crate::programs::{Arg, ArgWhat, Expr, Index, Param, Sort, Task};
 use kt_law::{Mode, Op, P, Place, Refusal};
@@ -57,7 +58,7 @@ fn check_names_in(sight: &Sight, what: &ArgWhat, found: &mut Option<Refusal>)
     match what {
         ArgWhat::Value(e) => check_names(sight, e, found),
         ArgWhat::Span(name, place, a, b) => {
-            note_if(found, *place, P::P6, kind_at(sight, name).is_none());
+            check_known(sight, name, *place, found);
             check_names(sight, a, found);
             check_names(sight, b, found);
         }
@@ -155,6 +156,7 @@ fn check_task(
     }
 }
 
+#[tactic(auto, using(crate::proofs::Late::fork_is_late))]
 fn check_named(
     sight: &Sight,
     name: &Name,
@@ -165,6 +167,9 @@ fn check_named(
 )
     ensures { found.new ≡ noted found.old (fork_rule (task_named 1 sight.now.program.now.tasks name.now) place (scope_of sight.now) len.now args.now) }
 {
+    if is_fork_late(found, place, len, args) {
+        return;
+    }
     let tasks = sight.program.tasks();
     let at = sight.program.task_at(name);
     if at < tasks.len() {

@@ -1,5 +1,5 @@
 // Lookups of declarations by their names, where the first of them are in reach.
-ghost use Rattle.std.specs.Prelude.{◌≡◌, ◌&&◌, ◌+◌, ◌<◌, ◌≤◌, drop, get_or, length, map, suc, take, true};
+ghost use Rattle.std.specs.Prelude.{◌≡◌, ◌&&◌, ◌+◌, ◌<◌, ◌≤◌, drop, get_or, length, map, suc, take, true, false};
 ghost use Rattle.std.specs.Str.{bytes_eq};
 ghost use Rattle.kt_prog.specs.Chains.{hash_family, hash_task};
 ghost use Rattle.kt_prog.specs.Declarations.{is_earlier, place_before};
@@ -62,9 +62,13 @@ fn is_such(declared: &Name, at: Place, name: &Name, place: Place) -> bool
     declared.is(name) && is_before(at, place)
 }
 
-fn is_family_beyond(families: &[Family], name: &Name, place: Place) -> bool
+fn is_family_beyond(families: &[Family], reached: bool, name: &Name, place: Place) -> bool
+    requires { reached ≡ true → is_earlier (map declared_family families.now) (record { name = name.now; place = place }) ≡ false }
     ensures { result ≡ is_earlier (map declared_family families.now) (record { name = name.now; place = place }) }
 {
+    if reached {
+        return false;
+    }
     for family in families {
         if is_such(&family.name, family.place, name, place) {
             return true;
@@ -74,9 +78,18 @@ fn is_family_beyond(families: &[Family], name: &Name, place: Place) -> bool
 }
 
 /// Whether a family of this name stands before the place.
-pub fn is_family_before(families: &[Family], chains: &Chains, name: &Name, place: Place) -> bool
+///
+/// `reached` says that it may only be one in reach.
+pub fn is_family_before(
+    families: &[Family],
+    chains: &Chains,
+    reached: bool,
+    name: &Name,
+    place: Place,
+) -> bool
     requires exact { chains.now ≡ take COVERED (map hash_family families.now) }
     requires few { length chains.now ≤ length families.now }
+    requires reached { reached ≡ true → is_earlier (map declared_family (drop (length chains.now) families.now)) (record { name = name.now; place = place }) ≡ false }
     ensures { result ≡ is_earlier (map declared_family families.now) (record { name = name.now; place = place }) }
 {
     let covered = chains.len();
@@ -88,12 +101,16 @@ pub fn is_family_before(families: &[Family], chains: &Chains, name: &Name, place
         }
         at = chains.after(at);
     }
-    is_family_beyond(&families[covered..], name, place)
+    is_family_beyond(&families[covered..], reached, name, place)
 }
 
-fn is_task_beyond(tasks: &[Task], name: &Name, place: Place) -> bool
+fn is_task_beyond(tasks: &[Task], reached: bool, name: &Name, place: Place) -> bool
+    requires { reached ≡ true → is_earlier (map declared_task tasks.now) (record { name = name.now; place = place }) ≡ false }
     ensures { result ≡ is_earlier (map declared_task tasks.now) (record { name = name.now; place = place }) }
 {
+    if reached {
+        return false;
+    }
     for task in tasks {
         if is_such(&task.name, task.place, name, place) {
             return true;
@@ -103,9 +120,18 @@ fn is_task_beyond(tasks: &[Task], name: &Name, place: Place) -> bool
 }
 
 /// Whether a task or loop of this name stands before the place.
-pub fn is_task_before(tasks: &[Task], chains: &Chains, name: &Name, place: Place) -> bool
+///
+/// `reached` says that it may only be one in reach.
+pub fn is_task_before(
+    tasks: &[Task],
+    chains: &Chains,
+    reached: bool,
+    name: &Name,
+    place: Place,
+) -> bool
     requires exact { chains.now ≡ take COVERED (map hash_task tasks.now) }
     requires few { length chains.now ≤ length tasks.now }
+    requires reached { reached ≡ true → is_earlier (map declared_task (drop (length chains.now) tasks.now)) (record { name = name.now; place = place }) ≡ false }
     ensures { result ≡ is_earlier (map declared_task tasks.now) (record { name = name.now; place = place }) }
 {
     let covered = chains.len();
@@ -117,7 +143,7 @@ pub fn is_task_before(tasks: &[Task], chains: &Chains, name: &Name, place: Place
         }
         at = chains.after(at);
     }
-    is_task_beyond(&tasks[covered..], name, place)
+    is_task_beyond(&tasks[covered..], reached, name, place)
 }
 
 fn task_beyond(tasks: &[Task], from: usize, name: &Name) -> usize

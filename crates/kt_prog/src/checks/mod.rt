@@ -2,6 +2,7 @@
 // that comes first.
 ghost use Rattle.std.specs.Prelude.{◌≡◌, ◌↔◌, IsOk, IfErr, Some};
 ghost use Rattle.kt_prog.specs.Accepted.{IsAccepted, mains_rules, task_rules};
+ghost use Rattle.kt_prog.specs.Late.{place_or};
 ghost use Rattle.kt_prog.specs.Refusals.{noted, refusal_of};
 
 mod arguments;
@@ -10,6 +11,7 @@ mod declarations;
 mod directories;
 mod exprs;
 mod forks;
+mod late;
 mod least;
 mod lets;
 mod lookups;
@@ -22,7 +24,7 @@ mod tests;
 use crate::programs::{Main, Program, Task};
 use declarations::{check_counts, check_families, check_mains, check_names_twice};
 use directories::Directory;
-use kt_law::Refusal;
+use kt_law::{Place, Refusal};
 use names::{Names, Sight};
 use params::check_params;
 use statements::check_block;
@@ -56,15 +58,26 @@ fn check_bodies(program: &Directory, mains: &[Main], found: &mut Option<Refusal>
     }
 }
 
+// Where the breach stands that was found, or else this place.
+fn place_of(found: &Option<Refusal>, end: Place) -> Place
+    ensures { result ≡ place_or found.now end }
+{
+    match found {
+        None => end,
+        Some(least) => least.place,
+    }
+}
+
+// What is too many comes first: then all that stands behind it is passed over, however much it is.
 fn first_breach(program: &Program) -> Option<Refusal>
     ensures { result ≡ refusal_of program.now }
 {
-    let directory = Directory::of(program);
     let mut found = None;
-    check_names_twice(&directory, &mut found);
     check_mains(program.end, program.mains.as_slice(), &mut found);
     check_families(program.families.as_slice(), &mut found);
     check_counts(program.tasks.as_slice(), &mut found);
+    let directory = Directory::of(program, place_of(&found, program.end));
+    check_names_twice(&directory, &mut found);
     check_tasks(&directory, program.tasks.as_slice(), &mut found);
     check_bodies(&directory, program.mains.as_slice(), &mut found);
     found

@@ -11,6 +11,7 @@ ghost use Rattle.kt_prog.specs.declared.programs.What.{out-What};
 ghost use Rattle.kt_prog.specs.declared.sight.Kind.TheVariants.{Number};
 
 use super::directories::Directory;
+use super::late::is_late;
 use super::least::note_if;
 use super::lets::{Lets, is_let, let_kind_at};
 use crate::names::Name;
@@ -186,9 +187,13 @@ fn room(names: &Names) -> usize
 }
 
 /// Notes what a `let` or `for` name breaks.
+#[tactic(auto, using(crate::proofs::Late::new_late))]
 pub fn check_new_name(sight: &Sight, name: &Name, place: Place, found: &mut Option<Refusal>)
     ensures { found.new ≡ noted found.old (new_name (scope_of sight.now) name.now place) }
 {
+    if is_late(found, place) {
+        return;
+    }
     note_if(found, place, P::P5, kind_at(sight, name).is_some());
     note_if(found, place, P::P12, room(sight.names) == 0);
 }

@@ -4,9 +4,12 @@ ghost use Rattle.kt_law.specs.Modes.{is_postponed};
 ghost use Rattle.kt_prog.specs.Declarations.{Counts, counted, no_params, param_rules, sort_rule};
 ghost use Rattle.kt_prog.specs.Scope.{known_index, known_of, known_param};
 ghost use Rattle.kt_prog.specs.Targets.{is_loop_of};
+ghost use Rattle.kt_law.specs.declared.places.P.TheVariants.{P5};
+ghost use Rattle.kt_prog.specs.Rules.{denied};
 ghost use Rattle.kt_prog.specs.Refusals.{noted};
 ghost use Rattle.kt_prog.specs.Sights.{kind_index};
 
+use super::late::is_late;
 use super::least::note_if;
 use super::names::{index_kind, param_kind};
 use crate::names::Name;
@@ -76,6 +79,18 @@ fn is_taken(index: &Option<Index>, before: &[Param], name: &Name) -> bool
     index_kind(index, name).is_some() || param_kind(before, name).is_some()
 }
 
+/// Notes a parameter that has the name of one before it or of the index.
+#[tactic(auto, using(crate::proofs::Late::denied_late))]
+fn check_name(index: &Option<Index>, before: &[Param], param: &Param, found: &mut Option<Refusal>)
+    ensures { found.new ≡ noted found.old (denied param.now.name_place P5 (is_some (kind_index index.now param.now.name) || is_some (known_of (map known_param before.now) param.now.name))) }
+{
+    if is_late(found, param.name_place) {
+        return;
+    }
+    let taken = is_taken(index, before, &param.name);
+    note_if(found, param.name_place, P::P5, taken);
+}
+
 /// Notes what the parameters of a task or loop break.
 pub fn check_params(index: &Option<Index>, params: &[Param], found: &mut Option<Refusal>)
     ensures { found.new ≡ noted found.old (param_rules (is_loop_of index.now) (known_index index.now) no_params params.now) }
@@ -85,8 +100,7 @@ pub fn check_params(index: &Option<Index>, params: &[Param], found: &mut Option<
     let mut objects = 0;
     for (i, param) in params.iter().enumerate() {
         check_sort(in_loop, ints, objects, param, found);
-        let taken = is_taken(index, &params[..i], &param.name);
-        note_if(found, param.name_place, P::P5, taken);
+        check_name(index, &params[..i], param, found);
         ints = with_int(ints, param.sort);
         objects = with_object(objects, param.sort);
     }

@@ -9,6 +9,7 @@ ghost use Rattle.kt_prog.specs.Sights.{scope_of};
 
 use super::exprs::{check_expr, is_index, is_own};
 use super::forks::check_fork;
+use super::late::is_late;
 use super::least::{note, note_if};
 use super::lets::Lets;
 use super::names::{Names, Sight, check_new_name, kind_at, names_behind};
@@ -52,10 +53,36 @@ fn note_fold(found: &mut Option<Refusal>, op: Op, kind: Option<Kind>, place: Pla
     }
 }
 
+/// Notes what an assignment breaks of its name's rules.
+#[tactic(auto, using(crate::proofs::Late::set_late))]
+fn check_set(sight: &Sight, name: &Name, place: Place, found: &mut Option<Refusal>)
+    ensures { found.new ≡ noted found.old (set_rule (kind_of (scope_of sight.now) name.now) place) }
+{
+    if is_late(found, place) {
+        return;
+    }
+    note_set(found, kind_at(sight, name), place);
+}
+
+/// Notes what a cumulation breaks of them.
+#[tactic(auto, using(crate::proofs::Late::fold_late))]
+fn check_fold(sight: &Sight, op: Op, name: &Name, place: Place, found: &mut Option<Refusal>)
+    ensures { found.new ≡ noted found.old (element_rule (fold_rule op place) (kind_of (scope_of sight.now) name.now) place) }
+{
+    if is_late(found, place) {
+        return;
+    }
+    note_fold(found, op, kind_at(sight, name), place);
+}
+
 /// Notes what a write of this element breaks of its name's rules.
+#[tactic(auto, using(crate::proofs::Late::store_late))]
 fn check_store(sight: &Sight, name: &Name, place: Place, at: &Expr, found: &mut Option<Refusal>)
     ensures { found.new ≡ noted found.old (element_rule (store_rule (scope_of sight.now) (rules_of at.now).bare place) (kind_of (scope_of sight.now) name.now) place) }
 {
+    if is_late(found, place) {
+        return;
+    }
     let own = is_index(sight, at);
     match kind_at(sight, name) {
         None => note(found, place, P::P6),
@@ -78,7 +105,7 @@ fn check_what(sight: &Sight, at: Place, what: &What, found: &mut Option<Refusal>
             check_expr(sight, e, found);
         }
         What::Set(name, place, e) => {
-            note_set(found, kind_at(sight, name), *place);
+            check_set(sight, name, *place, found);
             check_expr(sight, e, found);
         }
         What::Store(name, place, i, e) => {
@@ -87,7 +114,7 @@ fn check_what(sight: &Sight, at: Place, what: &What, found: &mut Option<Refusal>
             check_expr(sight, e, found);
         }
         What::Fold(name, place, i, op, e) => {
-            note_fold(found, *op, kind_at(sight, name), *place);
+            check_fold(sight, *op, name, *place, found);
             check_expr(sight, i, found);
             check_expr(sight, e, found);
         }

@@ -1,8 +1,12 @@
-use Rattle.std.proofs.Common.{refl}
-use Rattle.kt_prog.proofs.Noted.{noted_append}
-use Rattle.kt_prog.specs.Accepted.{broken}
+use Rattle.std.proofs.Common.{None}
+use Rattle.kt_prog.specs.Accepted.{broken, mains_rules, task_rules}
+use Rattle.kt_prog.specs.Declarations.{count_rules, declared_in, family_rules, main_rules, names_twice}
+use Rattle.kt_prog.proofs.Least.{first_fourth}
 use Rattle.kt_prog.proofs.checks.first_breach.Goals as goal
 
 pub returns : goal.returns
 unfolding broken
-returns c = rw (noted_append, noted_append, noted_append, noted_append, noted_append, c.check_bodies.ensures, c.check_tasks.ensures, c.check_counts.ensures, c.check_families.ensures, c.check_mains.ensures, c.check_names_twice.ensures, c.of-directory.ensures, c.as_slice.ensures, c.as_slice-2.ensures, c.as_slice-3.ensures, c.as_slice-4.ensures, c.as_slice-5.ensures) refl
+returns c =
+    let p = c.args.program.now in
+    rw (c.check_bodies.ensures, c.check_tasks.ensures, c.check_names_twice.ensures, c.check_counts.ensures, c.check_families.ensures, c.check_mains.ensures, c.of-directory.ensures, c.as_slice.ensures, c.as_slice-2.ensures, c.as_slice-3.ensures, c.as_slice-4.ensures, c.as_slice-5.ensures)
+    (first_fourth None (names_twice (declared_in p) (declared_in p)) (main_rules p.end p.mains) (family_rules 0 0 p.families) (count_rules 0 p.tasks) (task_rules p p.tasks) (mains_rules p p.mains))

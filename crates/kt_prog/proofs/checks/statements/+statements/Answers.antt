@@ -16,13 +16,13 @@ pub check_what-returns-in-Let : goal.check_what-returns-in-Let
 check_what-returns-in-Let t c = rw (c.in-Let.is, what_let, noted_append, c.check_expr.ensures, c.check_new_name.ensures) refl
 
 pub check_what-returns-in-Set : goal.check_what-returns-in-Set
-check_what-returns-in-Set t c = rw (c.in-Set.is, what_set, noted_append, c.check_expr-in-Set.ensures, c.note_set.ensures, c.kind_at.ensures) refl
+check_what-returns-in-Set t c = rw (c.in-Set.is, what_set, noted_append, c.check_expr-in-Set.ensures, c.check_set.ensures) refl
 
 pub check_what-returns-in-Store : goal.check_what-returns-in-Store
 check_what-returns-in-Store t c = rw (c.in-Store.is, what_store, noted_append, noted_append, c.check_expr-in-Store-2.ensures, c.check_expr-in-Store.ensures, c.check_store.ensures) refl
 
 pub check_what-returns-in-Fold : goal.check_what-returns-in-Fold
-check_what-returns-in-Fold t c = rw (c.in-Fold.is, what_fold, noted_append, noted_append, c.check_expr-in-Fold-2.ensures, c.check_expr-in-Fold.ensures, c.note_fold.ensures, c.kind_at-in-Fold.ensures) refl
+check_what-returns-in-Fold t c = rw (c.in-Fold.is, what_fold, noted_append, noted_append, c.check_expr-in-Fold-2.ensures, c.check_expr-in-Fold.ensures, c.check_fold.ensures) refl
 
 pub check_what-returns-in-If : goal.check_what-returns-in-If
 check_what-returns-in-If t c = rw (c.in-If.is, what_if, noted_append, noted_append, c.check_block-in-If.ensures, c.check_block.ensures, c.check_expr-in-If.ensures, c.as_slice.ensures, c.as_slice-in-If.ensures) refl
