@@ -49,28 +49,26 @@ impl Gauge {
 
     /// Whether this is one bracket or one token of an expression too many.
     #[tactic(auto, unfolding(crate::specs::Gauge::is_over))]
-    pub fn is_over(&self, next: &Symbol) -> bool
+    pub fn is_over(&self, next: &Symbol<'_>) -> bool
         ensures { result ≡ is_over self.now next.now }
     {
         (is_opening(next) && self.brackets >= BRACKETS) || is_long(self.brackets, self.reach, next)
     }
 
-    /// Behind this token.
+    /// Goes on behind this token.
     #[tactic(auto, unfolding(crate::specs::Gauge::gauge_behind, crate::specs::Gauge::is_over))]
-    pub fn behind(&self, next: &Symbol) -> Self
-        requires fits { is_over self.now next.now ≡ false }
-        requires bounded { self.now.brackets ≤ BRACKETS }
-        ensures { result ≡ gauge_behind self.now next.now }
+    pub fn pass(&mut self, next: &Symbol<'_>)
+        requires fits { is_over self.old next.now ≡ false }
+        requires bounded { self.old.brackets ≤ BRACKETS }
+        ensures { self.new ≡ gauge_behind self.old next.now }
     {
-        Gauge {
-            brackets: brackets_behind(self.brackets, next),
-            reach: reach_behind(self.brackets, self.reach, next),
-        }
+        pass_reach(self.brackets, &mut self.reach, next);
+        self.brackets = brackets_behind(self.brackets, next);
     }
 }
 
 /// Whether this is one token too many of an expression.
-fn is_long(brackets: u32, reach: Reach, symbol: &Symbol) -> bool
+fn is_long(brackets: u32, reach: Reach, symbol: &Symbol<'_>) -> bool
     ensures { result ≡ is_long brackets reach symbol.now }
 {
     match reach {
@@ -82,7 +80,7 @@ fn is_long(brackets: u32, reach: Reach, symbol: &Symbol) -> bool
 }
 
 /// Whether it is one of the three brackets that open.
-fn is_opening(symbol: &Symbol) -> bool
+fn is_opening(symbol: &Symbol<'_>) -> bool
     ensures { result ≡ is_opening symbol.now }
 {
     matches!(
@@ -92,7 +90,7 @@ fn is_opening(symbol: &Symbol) -> bool
 }
 
 /// How many brackets are open behind this token.
-fn brackets_behind(brackets: u32, symbol: &Symbol) -> u32
+fn brackets_behind(brackets: u32, symbol: &Symbol<'_>) -> u32
     requires { brackets < 2 ^ 32 - 1 }
     ensures { result ≡ open_behind brackets symbol.now }
 {
@@ -108,14 +106,14 @@ fn brackets_behind(brackets: u32, symbol: &Symbol) -> u32
 }
 
 /// Whether the token, which does not belong to it, ends the expression.
-fn ends_span(brackets: u32, span: Span, symbol: &Symbol) -> bool
+fn ends_span(brackets: u32, span: Span, symbol: &Symbol<'_>) -> bool
     ensures { result ≡ ends_span brackets span symbol.now }
 {
     brackets == span.base && is_end_sign(symbol)
 }
 
 /// Whether it is a sign that no expression holds outside its own brackets.
-fn is_end_sign(symbol: &Symbol) -> bool
+fn is_end_sign(symbol: &Symbol<'_>) -> bool
     ensures { result ≡ is_end_sign symbol.now }
 {
     matches!(
@@ -141,29 +139,26 @@ fn begun(in_fork: bool, base: u32) -> Reach
     })
 }
 
-fn reach_behind(brackets: u32, reach: Reach, symbol: &Symbol) -> Reach
+/// Most tokens are one more of an expression.
+fn pass_reach(brackets: u32, reach: &mut Reach, symbol: &Symbol<'_>)
     requires room { brackets < 2 ^ 32 - 1 }
-    requires fits { is_long brackets reach symbol.now ≡ false }
-    ensures { result ≡ reach_behind brackets reach symbol.now }
+    requires fits { is_long brackets reach.old symbol.now ≡ false }
+    ensures { reach.new ≡ reach_behind brackets reach.old symbol.now }
 {
     match reach {
-        Reach::Apart => reach_apart(brackets, symbol),
-        Reach::Forking => reach_forking(brackets, symbol),
+        Reach::Apart => *reach = reach_apart(brackets, symbol),
+        Reach::Forking => *reach = reach_forking(brackets, symbol),
         Reach::Within(span) => {
-            if ends_span(brackets, span, symbol) {
-                reach_ended(span, symbol)
+            if ends_span(brackets, *span, symbol) {
+                *reach = reach_ended(*span, symbol);
             } else {
-                Reach::Within(Span {
-                    in_fork: span.in_fork,
-                    base: span.base,
-                    count: span.count + 1,
-                })
+                span.count += 1;
             }
         }
     }
 }
 
-fn reach_apart(brackets: u32, symbol: &Symbol) -> Reach
+fn reach_apart(brackets: u32, symbol: &Symbol<'_>) -> Reach
     requires { brackets < 2 ^ 32 - 1 }
     ensures { result ≡ reach_apart brackets symbol.now }
 {
@@ -177,7 +172,7 @@ fn reach_apart(brackets: u32, symbol: &Symbol) -> Reach
     }
 }
 
-fn reach_forking(brackets: u32, symbol: &Symbol) -> Reach
+fn reach_forking(brackets: u32, symbol: &Symbol<'_>) -> Reach
     requires { brackets < 2 ^ 32 - 1 }
     ensures { result ≡ reach_forking brackets symbol.now }
 {
@@ -188,7 +183,7 @@ fn reach_forking(brackets: u32, symbol: &Symbol) -> Reach
 }
 
 /// Behind the sign that ended the expression another one begins, or none.
-fn reach_ended(span: Span, symbol: &Symbol) -> Reach
+fn reach_ended(span: Span, symbol: &Symbol<'_>) -> Reach
     ensures { result ≡ reach_ended span symbol.now }
 {
     match symbol {

@@ -11,4 +11,4 @@ mod words;
 
 pub use opening::{Unopened, open_job};
 pub use reader::{ReadRefusal, read_program};
-pub use tokens::{Mark, Symbol, Tok};
+pub use tokens::{Mark, Symbol, Tok, Word};

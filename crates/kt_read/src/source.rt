@@ -28,8 +28,8 @@ pub enum Unread {
 
 /// A token that was found, and where it ends. A refusal looks like the end of the text.
 #[derive(Drop)]
-struct Found {
-    tok: Tok,
+struct Found<'a> {
+    tok: Tok<'a>,
     stop: usize,
     refusal: Option<Refusal>,
 }
@@ -41,7 +41,7 @@ pub struct Source<'a> {
     job: &'a [u8],
     lexer: Lexer<'a>,
     at: usize,
-    next: Found,
+    next: Found<'a>,
     gauge: Gauge,
 }
 
@@ -72,7 +72,15 @@ impl<'a> Source<'a> {
         ensures { result ≡ all_ahead job.now }
     {
         let mut lexer = Lexer::new(job);
-        let next = find(job, &mut lexer, 0);
+        let mut next = Found {
+            tok: Tok {
+                symbol: Symbol::End,
+                place: Place { line: 1, column: 1 },
+            },
+            stop: 0,
+            refusal: None,
+        };
+        find(job, &mut lexer, 0, &mut next);
         Source {
             job,
             lexer,
@@ -83,7 +91,7 @@ impl<'a> Source<'a> {
     }
 
     /// The next token. It is the end of the text too where a refusal stands.
-    pub fn next(&self) -> &Tok
+    pub fn next(&self) -> &Tok<'a>
         ensures { result.now ≡ next_of self.now }
     {
         &self.next.tok
@@ -113,9 +121,9 @@ impl<'a> Source<'a> {
         if self.gauge.is_over(&self.next.tok.symbol) {
             return Err(Unread::TooDeep);
         }
-        self.gauge = self.gauge.behind(&self.next.tok.symbol);
+        self.gauge.pass(&self.next.tok.symbol);
         self.at = self.next.stop;
-        self.next = find(self.job, &mut self.lexer, self.at);
+        find(self.job, &mut self.lexer, self.at, &mut self.next);
         Ok(())
     }
 
@@ -181,7 +189,7 @@ impl<'a> Source<'a> {
         let Symbol::Name(name) = &token.symbol else {
             return Err(Unread::Refused);
         };
-        let name = name.copied();
+        let name = name.name();
         let place = token.place;
         self.advance()?;
         Ok((name, place))
@@ -200,29 +208,29 @@ impl<'a> Source<'a> {
     }
 }
 
-/// The token that the lexer comes to next.
-fn find(job: &[u8], lexer: &mut Lexer<'_>, at: usize) -> Found
+/// Finds the token that the lexer comes to next. It is written in its place, since it is large.
+fn find<'a>(job: &'a [u8], lexer: &mut Lexer<'_>, at: usize, found: &mut Found<'a>)
     requires begun { lexer.now ≡ record { text = job.now; at = at } }
     requires inside { at ≤ length job.now }
-    ensures tok { result.tok ≡ tok_or_end job.now (next_token job.now at) }
-    ensures stop { result.stop ≡ stop_of (next_token job.now at) at }
-    ensures within { result.stop ≤ length job.now }
-    ensures refusal { result.refusal ≡ refusal_in (next_token job.now at) }
-    ensures moved { lexer.new ≡ record { text = job.now; at = result.stop } }
+    ensures tok { found.new.tok ≡ tok_or_end job.now (next_token job.now at) }
+    ensures stop { found.new.stop ≡ stop_of (next_token job.now at) at }
+    ensures within { found.new.stop ≤ length job.now }
+    ensures refusal { found.new.refusal ≡ refusal_in (next_token job.now at) }
+    ensures moved { lexer.new ≡ record { text = job.now; at = found.new.stop } }
 {
     match lexer.next() {
-        Ok(token) => Found {
-            tok: tok(job, &token),
-            stop: token.stop,
-            refusal: None,
-        },
-        Err(refusal) => Found {
-            tok: Tok {
+        Ok(token) => {
+            found.tok = tok(job, &token);
+            found.stop = token.stop;
+            found.refusal = None;
+        }
+        Err(refusal) => {
+            found.tok = Tok {
                 symbol: Symbol::End,
                 place: refusal.place,
-            },
-            stop: at,
-            refusal: Some(refusal),
-        },
+            };
+            found.stop = at;
+            found.refusal = Some(refusal);
+        }
     }
 }

@@ -4,12 +4,11 @@ ghost use Rattle.kt_prog.specs.Names.{IsName};
 ghost use Rattle.kt_text.specs.declared.tokens.TokenKind.TheVariants as K;
 ghost use Rattle.kt_read.specs.Words.{mark_in, operators, punctuation, reserved, symbol_of, tok_of};
 
-use crate::tokens::{Mark, Symbol, Tok};
-use kt_prog::Name;
+use crate::tokens::{Mark, Symbol, Tok, Word};
 use kt_text::{Token, TokenKind};
 
 /// The token as the grammar sees it.
-pub fn tok(job: &[u8], token: &Token) -> Tok
+pub fn tok<'a>(job: &'a [u8], token: &Token) -> Tok<'a>
     requires ordered { token.now.start ≤ token.now.stop }
     requires within { token.now.stop ≤ length job.now }
     requires name { token.now.kind ≡ K.Word → IsName (slice_range job.now token.now.start token.now.stop) }
@@ -28,17 +27,17 @@ pub fn tok(job: &[u8], token: &Token) -> Tok
     }
 }
 
-fn word(text: &[u8]) -> Symbol
+fn word(text: &[u8]) -> Symbol<'_>
     requires { IsName text.now }
     ensures { result ≡ symbol_of K.Word text.now }
 {
     match reserved(text) {
         Some(mark) => Symbol::Mark(mark),
-        None => Symbol::Name(Name::new(text)),
+        None => Symbol::Name(Word::new(text)),
     }
 }
 
-fn sign(text: &[u8]) -> Symbol
+fn sign(text: &[u8]) -> Symbol<'static>
     ensures { result ≡ symbol_of K.Sign text.now }
 {
     if let Some(mark) = punctuation(text) {

@@ -8,6 +8,7 @@ ghost use Rattle.std.specs.Prelude.{[], ◌∷◌};
 use crate::reader::expressions::{
     after_name, element, expression, expression_behind, expression_then,
 };
+use crate::reader::memory::add;
 use crate::source::{Source, Unread};
 use crate::tokens::{Mark, Symbol};
 use kt_law::Place;
@@ -30,7 +31,7 @@ fn argument(alloc: Global, source: &mut Source<'_>) -> Result<Arg, Unread>
             let value = expression(alloc, source)?;
             Ok(Arg {
                 place,
-                what: ArgWhat::Value(value),
+                what: ArgWhat::Value(value.into_inner()),
             })
         }
     }
@@ -53,7 +54,7 @@ fn argument_behind_name(
     let value = expression_behind(alloc, source, first)?;
     Ok(Arg {
         place,
-        what: ArgWhat::Value(value),
+        what: ArgWhat::Value(value.into_inner()),
     })
 }
 
@@ -72,7 +73,7 @@ fn argument_in_square(
         let end = expression_then(alloc, source, Mark::SquareClose)?;
         return Ok(Arg {
             place,
-            what: ArgWhat::Span(name, place, at, end),
+            what: ArgWhat::Span(name, place, at.into_inner(), end.into_inner()),
         });
     }
     source.expect(Mark::SquareClose)?;
@@ -80,7 +81,7 @@ fn argument_in_square(
     let value = expression_behind(alloc, source, first)?;
     Ok(Arg {
         place,
-        what: ArgWhat::Value(value),
+        what: ArgWhat::Value(value.into_inner()),
     })
 }
 
@@ -92,14 +93,14 @@ fn arguments_behind(
 ) -> Result<Items<Arg>, Unread>
     ensures { Answers (MoreArgs (first ∷ [])) after_arguments source.old source.new result }
 {
-    let mut args = Items::new(alloc);
-    args.push(first)?;
+    let mut args = Vec::new(alloc);
+    add(&mut args, first)?;
     'more: while source.is(Mark::Comma) {
         source.expect(Mark::Comma)?;
         let arg = argument(alloc, source)?;
-        args.push(arg)?;
+        add(&mut args, arg)?;
     }
-    Ok(args)
+    Ok(Items::from_vec(args))
 }
 
 /// `[ args ]`

@@ -1,6 +1,6 @@
 // Expressions by descent, a function for each level.
 ghost use Rattle.std.specs.Prelude.{◌≡◌, MatchResult, true};
-ghost use Rattle.kt_prog.specs.declared.programs.Expr.{Bin, Elem};
+ghost use Rattle.kt_prog.specs.declared.programs.Expr.{Bin, Elem, Var};
 ghost use Rattle.kt_read.specs.declared.source.Unread.TheVariants.{NoMemory};
 ghost use Rattle.kt_read.specs.declared.tokens.Symbol.TheVariants as S;
 ghost use Rattle.kt_read.specs.Ahead.{next_of};
@@ -10,6 +10,7 @@ ghost use Rattle.kt_read.specs.Operators.{additive_of, comparison_of, function_o
 ghost use Rattle.kt_read.specs.Reading.{Answers};
 ghost use Rattle.kt_read.specs.Residuals.{AfterAtom, AfterName, AfterSum, ExprThen};
 
+use crate::reader::memory::boxed;
 use crate::source::{Source, Unread};
 use crate::tokens::{Mark, Symbol};
 use kt_law::{BinOp, Place};
@@ -78,25 +79,38 @@ fn function(name: &Name) -> Option<BinOp>
     }
 }
 
-fn binary(alloc: Global, op: BinOp, left: Expr, right: Expr) -> Result<Expr, Unread>
+fn variable(alloc: Global, name: Name, place: Place) -> Result<Boxed<Expr>, Unread>
+    ensures { MatchResult result (λ e. e ≡ Var name place) (λ why. why ≡ NoMemory) }
+{
+    boxed(alloc, Expr::Var(name, place))
+}
+
+fn binary(
+    alloc: Global,
+    op: BinOp,
+    left: Boxed<Expr>,
+    right: Boxed<Expr>,
+) -> Result<Boxed<Expr>, Unread>
     ensures { MatchResult result (λ e. e ≡ Bin op left right) (λ why. why ≡ NoMemory) }
 {
-    let left = Boxed::new(alloc, left)?;
-    let right = Boxed::new(alloc, right)?;
-    Ok(Expr::Bin(op, left, right))
+    boxed(alloc, Expr::Bin(op, left, right))
 }
 
 /// The element of an object at this index.
-pub(crate) fn element(alloc: Global, name: Name, place: Place, at: Expr) -> Result<Expr, Unread>
+pub(crate) fn element(
+    alloc: Global,
+    name: Name,
+    place: Place,
+    at: Boxed<Expr>,
+) -> Result<Boxed<Expr>, Unread>
     ensures { MatchResult result (λ e. e ≡ Elem name place at) (λ why. why ≡ NoMemory) }
 {
-    let at = Boxed::new(alloc, at)?;
-    Ok(Expr::Elem(name, place, at))
+    boxed(alloc, Expr::Elem(name, place, at))
 }
 
 /// `sum [ comparison sum ]`
 #[cycle(expression)]
-pub(crate) fn expression(alloc: Global, source: &mut Source<'_>) -> Result<Expr, Unread>
+pub(crate) fn expression(alloc: Global, source: &mut Source<'_>) -> Result<Boxed<Expr>, Unread>
     ensures { Answers ReadsExpr after_expression source.old source.new result }
 {
     let first = sum(alloc, source)?;
@@ -109,7 +123,7 @@ pub(crate) fn expression_then(
     alloc: Global,
     source: &mut Source<'_>,
     mark: Mark,
-) -> Result<Expr, Unread>
+) -> Result<Boxed<Expr>, Unread>
     requires { after_expression (S.Mark mark) ≡ true }
     ensures { Answers (ExprThen mark) any source.old source.new result }
 {
@@ -120,7 +134,11 @@ pub(crate) fn expression_then(
 
 /// What is left of an expression behind its first sum.
 #[cycle(expression)]
-fn compared(alloc: Global, source: &mut Source<'_>, left: Expr) -> Result<Expr, Unread>
+fn compared(
+    alloc: Global,
+    source: &mut Source<'_>,
+    left: Boxed<Expr>,
+) -> Result<Boxed<Expr>, Unread>
     ensures { Answers (AfterSum left) after_expression source.old source.new result }
 {
     let Some(op) = comparison(source) else {
@@ -133,7 +151,7 @@ fn compared(alloc: Global, source: &mut Source<'_>, left: Expr) -> Result<Expr, 
 
 /// `product { additive product }`
 #[cycle(expression)]
-fn sum(alloc: Global, source: &mut Source<'_>) -> Result<Expr, Unread>
+fn sum(alloc: Global, source: &mut Source<'_>) -> Result<Boxed<Expr>, Unread>
     ensures { Answers ReadsSum after_sum source.old source.new result }
 {
     let first = product(alloc, source)?;
@@ -142,7 +160,7 @@ fn sum(alloc: Global, source: &mut Source<'_>) -> Result<Expr, Unread>
 
 /// What is left of a sum behind its first product.
 #[cycle(expression)]
-fn terms(alloc: Global, source: &mut Source<'_>, first: Expr) -> Result<Expr, Unread>
+fn terms(alloc: Global, source: &mut Source<'_>, first: Boxed<Expr>) -> Result<Boxed<Expr>, Unread>
     ensures { Answers (ReadsTerms first) after_sum source.old source.new result }
 {
     let mut left = first;
@@ -156,7 +174,7 @@ fn terms(alloc: Global, source: &mut Source<'_>, first: Expr) -> Result<Expr, Un
 
 /// `atom { multiplicative atom }`
 #[cycle(expression)]
-fn product(alloc: Global, source: &mut Source<'_>) -> Result<Expr, Unread>
+fn product(alloc: Global, source: &mut Source<'_>) -> Result<Boxed<Expr>, Unread>
     ensures { Answers ReadsProduct after_product source.old source.new result }
 {
     let first = atom(alloc, source)?;
@@ -165,7 +183,11 @@ fn product(alloc: Global, source: &mut Source<'_>) -> Result<Expr, Unread>
 
 /// What is left of a product behind its first atom.
 #[cycle(expression)]
-fn factors(alloc: Global, source: &mut Source<'_>, first: Expr) -> Result<Expr, Unread>
+fn factors(
+    alloc: Global,
+    source: &mut Source<'_>,
+    first: Boxed<Expr>,
+) -> Result<Boxed<Expr>, Unread>
     ensures { Answers (ReadsFactors first) after_product source.old source.new result }
 {
     let mut left = first;
@@ -178,11 +200,14 @@ fn factors(alloc: Global, source: &mut Source<'_>, first: Expr) -> Result<Expr, 
 }
 
 #[cycle(expression)]
-fn atom(alloc: Global, source: &mut Source<'_>) -> Result<Expr, Unread>
+fn atom(alloc: Global, source: &mut Source<'_>) -> Result<Boxed<Expr>, Unread>
     ensures { Answers ReadsAtom after_atom source.old source.new result }
 {
     match &source.next().symbol {
-        Symbol::Number(_) => Ok(Expr::Num(source.number()?)),
+        Symbol::Number(_) => {
+            let number = source.number()?;
+            boxed(alloc, Expr::Num(number))
+        }
         Symbol::Name(_) => {
             let (name, place) = source.name()?;
             after_name(alloc, source, name, place)
@@ -201,7 +226,7 @@ pub(crate) fn after_name(
     source: &mut Source<'_>,
     name: Name,
     place: Place,
-) -> Result<Expr, Unread>
+) -> Result<Boxed<Expr>, Unread>
     ensures { Answers (AfterName name place) after_atom source.old source.new result }
 {
     if source.is(Mark::SquareOpen) {
@@ -210,10 +235,10 @@ pub(crate) fn after_name(
         return element(alloc, name, place, at);
     }
     let Some(op) = function(&name) else {
-        return Ok(Expr::Var(name, place));
+        return variable(alloc, name, place);
     };
     if !source.is(Mark::ParenOpen) {
-        return Ok(Expr::Var(name, place));
+        return variable(alloc, name, place);
     }
     source.expect(Mark::ParenOpen)?;
     let left = expression_then(alloc, source, Mark::Comma)?;
@@ -225,8 +250,8 @@ pub(crate) fn after_name(
 pub(crate) fn expression_behind(
     alloc: Global,
     source: &mut Source<'_>,
-    first: Expr,
-) -> Result<Expr, Unread>
+    first: Boxed<Expr>,
+) -> Result<Boxed<Expr>, Unread>
     ensures { Answers (AfterAtom first) after_expression source.old source.new result }
 {
     let product = factors(alloc, source, first)?;

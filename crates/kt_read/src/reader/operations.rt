@@ -9,16 +9,16 @@ ghost use Rattle.kt_read.specs.Reading.{Answers};
 ghost use Rattle.kt_read.specs.Statements.{ReadsOp};
 
 use crate::source::{Source, Unread};
-use crate::tokens::{Mark, Symbol};
+use crate::tokens::{Mark, Symbol, Word};
 use kt_law::{Mode, Op, Place};
 use kt_prog::Name;
 
 /// The operation of this name.
 #[tactic(auto, unfolding(crate::specs::Operators::op_of))]
-fn op_named(name: &Name) -> Option<Op>
-    ensures { result ≡ op_of name.now }
+fn op_named(word: &Word<'_>) -> Option<Op>
+    ensures { result ≡ op_of word.now }
 {
-    let text = name.as_bytes();
+    let text = word.as_bytes();
     if text == b"add".as_slice() {
         Some(Op::Add)
     } else if text == b"min".as_slice() {
@@ -38,10 +38,10 @@ fn op_named(name: &Name) -> Option<Op>
 
 /// The direct mode of this name, but for `cw`.
 #[tactic(auto, unfolding(crate::specs::Operators::direct_of))]
-fn direct_named(name: &Name) -> Option<Mode>
-    ensures { result ≡ direct_of name.now }
+fn direct_named(word: &Word<'_>) -> Option<Mode>
+    ensures { result ≡ direct_of word.now }
 {
-    let text = name.as_bytes();
+    let text = word.as_bytes();
     if text == b"r".as_slice() {
         Some(Mode::R)
     } else if text == b"w".as_slice() {
@@ -55,10 +55,10 @@ fn direct_named(name: &Name) -> Option<Mode>
 
 /// The postponed mode of this name, but for `cwp`.
 #[tactic(auto, unfolding(crate::specs::Operators::postponed_of))]
-fn postponed_named(name: &Name) -> Option<Mode>
-    ensures { result ≡ postponed_of name.now }
+fn postponed_named(word: &Word<'_>) -> Option<Mode>
+    ensures { result ≡ postponed_of word.now }
 {
-    let text = name.as_bytes();
+    let text = word.as_bytes();
     if text == b"rp".as_slice() {
         Some(Mode::Rp)
     } else if text == b"wp".as_slice() {

@@ -7,12 +7,13 @@ ghost use Rattle.kt_read.specs.Statements.{ReadsBlock, ReadsElse, ReadsStmt};
 
 use crate::reader::arguments::forked;
 use crate::reader::expressions::{expression, expression_then};
+use crate::reader::memory::{add, boxed};
 use crate::reader::operations::operation;
 use crate::source::{Source, Unread};
 use crate::tokens::Mark;
 use kt_law::Place;
 use kt_prog::{Expr, Name, Stmt, What};
-use sqlite_items::Items;
+use sqlite_items::{Boxed, Items};
 use std::alloc::Global;
 
 /// A name and a sign or a reserved word behind it.
@@ -25,20 +26,23 @@ pub(crate) fn name_then(source: &mut Source<'_>, mark: Mark) -> Result<(Name, Pl
 }
 
 /// `"let" NAME "=" expr ";"`
-fn let_statement(alloc: Global, source: &mut Source<'_>) -> Result<Stmt, Unread>
+fn let_statement(alloc: Global, source: &mut Source<'_>) -> Result<Boxed<Stmt>, Unread>
     ensures { Answers LetStmt any source.old source.new result }
 {
     let place = source.expect(Mark::Let)?;
     let (name, name_place) = name_then(source, Mark::Becomes)?;
     let value = expression_then(alloc, source, Mark::Semicolon)?;
-    Ok(Stmt {
-        place,
-        what: What::Let(name, name_place, value),
-    })
+    boxed(
+        alloc,
+        Stmt {
+            place,
+            what: What::Let(name, name_place, value.into_inner()),
+        },
+    )
 }
 
 /// `"fork" NAME "(" [ forked ] ")" ";"`
-fn fork_statement(alloc: Global, source: &mut Source<'_>) -> Result<Stmt, Unread>
+fn fork_statement(alloc: Global, source: &mut Source<'_>) -> Result<Boxed<Stmt>, Unread>
     ensures { Answers ForkStmt any source.old source.new result }
 {
     let place = source.expect(Mark::Fork)?;
@@ -46,14 +50,17 @@ fn fork_statement(alloc: Global, source: &mut Source<'_>) -> Result<Stmt, Unread
     let (length, args) = forked(alloc, source)?;
     source.expect(Mark::ParenClose)?;
     source.expect(Mark::Semicolon)?;
-    Ok(Stmt {
-        place,
-        what: What::Fork(name, name_place, length, args),
-    })
+    boxed(
+        alloc,
+        Stmt {
+            place,
+            what: What::Fork(name, name_place, length, args),
+        },
+    )
 }
 
 /// An assignment or a cumulation.
-fn named_statement(alloc: Global, source: &mut Source<'_>) -> Result<Stmt, Unread>
+fn named_statement(alloc: Global, source: &mut Source<'_>) -> Result<Boxed<Stmt>, Unread>
     ensures { Answers NamedStmt any source.old source.new result }
 {
     let (name, place) = source.name()?;
@@ -66,16 +73,19 @@ fn statement_behind_name(
     source: &mut Source<'_>,
     name: Name,
     place: Place,
-) -> Result<Stmt, Unread>
+) -> Result<Boxed<Stmt>, Unread>
     ensures { Answers (AfterStmtName name place) any source.old source.new result }
 {
     if source.is(Mark::Becomes) {
         source.expect(Mark::Becomes)?;
         let value = expression_then(alloc, source, Mark::Semicolon)?;
-        return Ok(Stmt {
-            place,
-            what: What::Set(name, place, value),
-        });
+        return boxed(
+            alloc,
+            Stmt {
+                place,
+                what: What::Set(name, place, value.into_inner()),
+            },
+        );
     }
     source.expect(Mark::SquareOpen)?;
     let at = expression_then(alloc, source, Mark::SquareClose)?;
@@ -88,40 +98,49 @@ fn statement_behind_element(
     source: &mut Source<'_>,
     name: Name,
     place: Place,
-    at: Expr,
-) -> Result<Stmt, Unread>
+    at: Boxed<Expr>,
+) -> Result<Boxed<Stmt>, Unread>
     ensures { Answers (AfterElement name place at) any source.old source.new result }
 {
     if source.is(Mark::Becomes) {
         source.expect(Mark::Becomes)?;
         let value = expression_then(alloc, source, Mark::Semicolon)?;
-        return Ok(Stmt {
-            place,
-            what: What::Store(name, place, at, value),
-        });
+        return boxed(
+            alloc,
+            Stmt {
+                place,
+                what: What::Store(name, place, at.into_inner(), value.into_inner()),
+            },
+        );
     }
     let op = operation(source)?;
     source.expect(Mark::Becomes)?;
     let value = expression_then(alloc, source, Mark::Semicolon)?;
-    Ok(Stmt {
-        place,
-        what: What::Fold(name, place, at, op, value),
-    })
+    boxed(
+        alloc,
+        Stmt {
+            place,
+            what: What::Fold(name, place, at.into_inner(), op, value.into_inner()),
+        },
+    )
 }
 
 /// `"if" expr block [ "else" block ]`
 #[cycle(statement)]
-fn if_statement(alloc: Global, source: &mut Source<'_>) -> Result<Stmt, Unread>
+fn if_statement(alloc: Global, source: &mut Source<'_>) -> Result<Boxed<Stmt>, Unread>
     ensures { Answers IfStmt after_statement source.old source.new result }
 {
     let place = source.expect(Mark::If)?;
     let test = expression(alloc, source)?;
     let then_do = block(alloc, source)?;
     let else_do = otherwise(alloc, source)?;
-    Ok(Stmt {
-        place,
-        what: What::If(test, then_do, else_do),
-    })
+    boxed(
+        alloc,
+        Stmt {
+            place,
+            what: What::If(test.into_inner(), then_do, else_do),
+        },
+    )
 }
 
 /// `[ "else" block ]`
@@ -138,7 +157,7 @@ fn otherwise(alloc: Global, source: &mut Source<'_>) -> Result<Items<Stmt>, Unre
 
 /// `"for" NAME "in" expr ".." expr block`
 #[cycle(statement)]
-fn for_statement(alloc: Global, source: &mut Source<'_>) -> Result<Stmt, Unread>
+fn for_statement(alloc: Global, source: &mut Source<'_>) -> Result<Boxed<Stmt>, Unread>
     ensures { Answers ForStmt any source.old source.new result }
 {
     let place = source.expect(Mark::For)?;
@@ -146,14 +165,17 @@ fn for_statement(alloc: Global, source: &mut Source<'_>) -> Result<Stmt, Unread>
     let first = expression_then(alloc, source, Mark::Dots)?;
     let end = expression(alloc, source)?;
     let body = block(alloc, source)?;
-    Ok(Stmt {
-        place,
-        what: What::For(name, name_place, first, end, body),
-    })
+    boxed(
+        alloc,
+        Stmt {
+            place,
+            what: What::For(name, name_place, first.into_inner(), end.into_inner(), body),
+        },
+    )
 }
 
 #[cycle(statement)]
-fn statement(alloc: Global, source: &mut Source<'_>) -> Result<Stmt, Unread>
+fn statement(alloc: Global, source: &mut Source<'_>) -> Result<Boxed<Stmt>, Unread>
     ensures { Answers ReadsStmt after_statement source.old source.new result }
 {
     if source.is(Mark::Let) {
@@ -177,11 +199,11 @@ pub(crate) fn block(alloc: Global, source: &mut Source<'_>) -> Result<Items<Stmt
     ensures { Answers ReadsBlock any source.old source.new result }
 {
     source.expect(Mark::BraceOpen)?;
-    let mut stmts = Items::new(alloc);
+    let mut stmts = Vec::new(alloc);
     'each: while !source.is(Mark::BraceClose) {
         let stmt = statement(alloc, source)?;
-        stmts.push(stmt)?;
+        add(&mut stmts, stmt.into_inner())?;
     }
     source.expect(Mark::BraceClose)?;
-    Ok(stmts)
+    Ok(Items::from_vec(stmts))
 }

@@ -37,11 +37,11 @@ after_name-returns-then-is t c =
 
 pub after_name-returns-in_default : goal.after_name-returns-in_default
 after_name-returns-in_default t c =
-    bare_reads _ _ _ (λ e. cc (c.is.ensures.1 e, c.if-is.false)) (λ e. sym c.function.ensures ∙ c.in_default.is)
+    made _ c.variable.ensures (bare_reads _ _ _ (λ e. cc (c.is.ensures.1 e, c.if-is.false)) (λ e. sym c.function.ensures ∙ c.in_default.is))
 
 pub after_name-returns-then-not-is : goal.after_name-returns-then-not-is
 after_name-returns-then-not-is t c =
-    bare_reads _ _ _ (λ e. cc (c.is.ensures.1 e, c.if-is.false)) (λ e. cc (c.is-2.ensures.1 e, c.if-not-is.true))
+    made _ c.variable-then-not-is.ensures (bare_reads _ _ _ (λ e. cc (c.is.ensures.1 e, c.if-is.false)) (λ e. cc (c.is-2.ensures.1 e, c.if-not-is.true)))
 
 pub after_name-returns-in_err-expect-2 : goal.after_name-returns-in_err-expect-2
 after_name-returns-in_err-expect-2 t c =
@@ -91,7 +91,7 @@ atom-returns-in_err-number-in-Number t c =
 pub atom-returns-in_ok-number-in-Number : goal.atom-returns-in_ok-number-in-Number
 atom-returns-in_ok-number-in-Number t c =
     let e = ap (λ u. u.symbol) (sym c.next.ensures) ∙ c.in-Number.is in
-    done (next_any (number_here _ _ e) c.in_ok-number-in-Number.ensures)
+    made _ c.boxed.ensures (done (next_any (number_here _ _ e) c.in_ok-number-in-Number.ensures))
 
 pub atom-returns-in_err-name-in-Name : goal.atom-returns-in_err-name-in-Name
 atom-returns-in_err-name-in-Name t c =

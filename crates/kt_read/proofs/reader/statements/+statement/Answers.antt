@@ -6,7 +6,7 @@ use Rattle.kt_read.specs.StatementResiduals.{after_statement}
 use Rattle.kt_read.proofs.StatementSteps.{stmt, done_follows, if_else_completes, if_blocks_complete, if_completes, block_follows, no_else_read, else_here, block_end, for_body_completes, for_end_completes, for_bounds_complete, for_completes, let_here, if_here, for_here, fork_here, NoWord, named_here, more_follow, no_tokens, block_here, more_complete, stmt_left, end_left}
 use Rattle.kt_read.proofs.Shrinking.{reads_left, reads_falls, sign_falls}
 use Rattle.kt_read.proofs.Signs.{done_completes}
-use Rattle.kt_read.proofs.Still.{here, next, done, fails, answers, any_follows, next_any, fails_any}
+use Rattle.kt_read.proofs.Still.{here, next, done, fails, answers, any_follows, next_any, fails_any, made}
 use Rattle.kt_read.proofs.reader.statements.+statement.Goals as goal
 
 pub if_statement-returns-in_err-place : goal.if_statement-returns-in_err-place
@@ -53,7 +53,7 @@ if_statement-returns t c =
     let s1 = next_any (here _) c.in_ok-place.ensures in
     let s2 = next s1 c.in_ok-test.ensures (λ e a vs us k h. block_follows k.0 vs k.1 k.2) in
     let s3 = next_any s2 c.in_ok-then_do.ensures in
-    done (next s3 c.in_ok-else_do.ensures (λ b. done_follows after_statement (stmt c.in_ok-place.place (If c.in_ok-test.test c.in_ok-then_do.then_do b))))
+    made _ (rw c.into_inner.ensures at c.boxed.ensures) (done (next s3 c.in_ok-else_do.ensures (λ b. done_follows after_statement (stmt c.in_ok-place.place (If c.in_ok-test.test c.in_ok-then_do.then_do b)))))
 
 pub otherwise-returns-then-not-is : goal.otherwise-returns-then-not-is
 otherwise-returns-then-not-is t c =
@@ -124,7 +124,7 @@ for_statement-returns t c =
     let s2 = next_any s1 c.in_ok-name.ensures in
     let s3 = next_any s2 c.in_ok-first.ensures in
     let s4 = next s3 c.in_ok-end.ensures (λ b a vs us k h. block_follows k.0 vs k.1 k.2) in
-    done (next_any s4 c.in_ok-body.ensures)
+    made _ (rw (c.into_inner.ensures, c.into_inner-2.ensures) at c.boxed.ensures) (done (next_any s4 c.in_ok-body.ensures))
 
 pub statement-returns-then-is : goal.statement-returns-then-is
 statement-returns-then-is t c =
@@ -163,7 +163,7 @@ block-returns-in_err-expect t c =
 pub block-each-init : goal.block-each-init
 block-each-init t c =
     let f = sign_falls c.in_ok-expect.ensures in
-    (rw c.new-stmts.ensures (next_any (block_here _) c.in_ok-expect.ensures), f)
+    (rw c.new-stmts.ensures.items (next_any (block_here _) c.in_ok-expect.ensures), f)
 
 pub block-statement-requires : goal.block-statement-requires
 block-statement-requires t c =
@@ -174,7 +174,7 @@ pub block-returns-in_err-stmt : goal.block-returns-in_err-stmt
 block-returns-in_err-stmt t c =
     let s0 = stmt_left _ c.each.invariant.0 (λ e. cc (c.is.ensures.1 e, c.each-test.true)) in
     let p = err_from_is_err_and c.from_residual-in_err-stmt.result c.from_residual-in_err-stmt.ensures.1 in
-    rw (p.1, p.2) (fails after_statement _ _ s0 c.in_err-stmt.ensures (λ s all vs us k h. more_follow (c.each.stmts ++ s ∷ []) all vs us k) (λ s. more_complete (c.each.stmts ++ s ∷ [])))
+    rw (p.1, p.2) (fails after_statement _ _ s0 c.in_err-stmt.ensures (λ s all vs us k h. more_follow (c.each.stmts.items ++ s ∷ []) all vs us k) (λ s. more_complete (c.each.stmts.items ++ s ∷ [])))
 
 pub block-each-smaller : goal.block-each-smaller
 block-each-smaller t c =
@@ -186,7 +186,7 @@ block-each-preserved t c =
     let s0 = stmt_left _ c.each.invariant.0 (λ e. cc (c.is.ensures.1 e, c.each-test.true)) in
     let f = reads_left c.in_ok-stmt.ensures in
     let g = c.each.invariant.1 in
-    (rw c.in_ok-push.ensures.ok (next s0 c.in_ok-stmt.ensures (λ s all vs us k h. more_follow (c.each.stmts ++ s ∷ []) all vs us k)), omega (arith, f, g))
+    (rw (c.in_ok-add.ensures, c.into_inner.ensures) (next s0 c.in_ok-stmt.ensures (λ s all vs us k h. more_follow (c.each.stmts.items ++ s ∷ []) all vs us k)), omega (arith, f, g))
 
 pub block-returns-in_err-expect-2 : goal.block-returns-in_err-expect-2
 block-returns-in_err-expect-2 t c =
@@ -197,4 +197,4 @@ block-returns-in_err-expect-2 t c =
 pub block-returns : goal.block-returns
 block-returns t c =
     let s0 = end_left _ c.each.invariant.0 (c.is.ensures.0 c.each-test.false) in
-    done (next_any s0 c.in_ok-expect-2.ensures)
+    rw c.from_vec.ensures (done (next_any s0 c.in_ok-expect-2.ensures))

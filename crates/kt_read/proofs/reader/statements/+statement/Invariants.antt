@@ -23,7 +23,7 @@ abbrev pub decreases-block : goal.decreases-block
 decreases-block l = 4 * left l.source.now + 1
 
 abbrev pub invariant-block-each : goal.invariant-block-each
-invariant-block-each l = Still ReadsBlock any l.fn.source l.source (MoreStmts l.stmts) × (left l.source < left l.fn.source)
+invariant-block-each l = Still ReadsBlock any l.fn.source l.source (MoreStmts l.stmts.items) × (left l.source < left l.fn.source)
 
 abbrev pub decreases-block-each : goal.decreases-block-each
 decreases-block-each l = left l.source

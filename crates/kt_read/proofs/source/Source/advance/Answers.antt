@@ -9,20 +9,20 @@ returns-then-is_over c =
 
 pub invariant_of-self : goal.invariant_of-self
 invariant_of-self c =
-    let e = c.find-self-inside.ensures in (
+    let e = c.find.ensures in (
       e.moved,
       e.stop,
       e.tok,
       e.refusal,
       c.self.invariant.5,
       e.within,
-      brackets_fit c.self.inside.gauge c.behind-self-inside.result c.self.inside.next.tok.symbol c.behind-self-inside.ensures (sym c.is_over.ensures ∙ c.if-is_over.false) c.self.invariant.6,
+      brackets_fit c.self.inside.gauge c.pass.new.self c.self.inside.next.tok.symbol c.pass.ensures (sym c.is_over.ensures ∙ c.if-is_over.false) c.self.invariant.6,
     )
 
 pub returns : goal.returns
 returns c =
     let next = next_is c.self.inside.job.now c.self.inside.at c.self.inside.gauge c.self.inside.next.tok c.args.self.now c.self.view_is c.self.invariant.2 in (
-      rest_is c.self.inside.job.now c.self.inside.at c.self.inside.next.stop c.self.inside.gauge c.behind-self-inside.result c.self.inside.next.tok c.args.self.now c.self.view_is next
-          c.self.invariant.1 c.behind-self-inside.ensures,
+      rest_is c.self.inside.job.now c.self.inside.at c.self.inside.next.stop c.self.inside.gauge c.pass.new.self c.self.inside.next.tok c.args.self.now c.self.view_is next
+          c.self.invariant.1 c.pass.ensures,
       over_is c.self.inside.job.now c.self.inside.at c.self.inside.gauge c.self.inside.next.tok c.args.self.now c.self.view_is next (sym c.is_over.ensures ∙ c.if-is_over.false),
     )

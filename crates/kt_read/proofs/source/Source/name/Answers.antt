@@ -18,4 +18,4 @@ pub returns : goal.returns
 returns c =
     let q = c.in_ok-advance.ensures in
     let e = rw c.next-token.ensures at c.in-Name.is in
-    rw (c.copied-name.ensures, c.next-token.ensures) (name_read _ _ _ e (record { behind = q.0; is_token = name_is_token _ _ e; fits = q.1 }))
+    rw (c.name-name.ensures, c.next-token.ensures) (name_read _ _ _ e (record { behind = q.0; is_token = name_is_token _ _ e; fits = q.1 }))

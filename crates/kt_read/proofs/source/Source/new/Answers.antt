@@ -5,5 +5,5 @@ use Rattle.kt_read.proofs.source.Source.new.Goals as goal
 
 pub invariant_of-result : goal.invariant_of-result
 invariant_of-result c =
-    let e = c.find-next.ensures in
+    let e = c.find.ensures in
     (e.moved, e.stop, e.tok, e.refusal, omega arith, e.within, subst (λ (g : Gauge). g.brackets ≤ BRACKETS) (sym c.new.ensures) (omega arith))
