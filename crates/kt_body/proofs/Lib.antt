@@ -12,3 +12,4 @@ pub mod Objects
 pub mod Rooms
 pub mod Starting
 pub mod Rightful
+pub mod Elements
