@@ -1,7 +1,7 @@
 pub mod Layouts
 pub mod Forking
 pub mod TaskBodies
-pub mod Rightful
+pub mod Standing
 pub mod Alike
 pub mod Rests
 pub mod Turns

@@ -1,5 +1,5 @@
 -- How the run stands between two tasks.
-use Rattle.std.proofs.Common.{◌≡◌, ◌≤◌, ◌<◌, ℕ, zero, suc, ◌+◌, ◌-◌, Bool, true, false, nat_lt, List, [], ◌∷◌, ◌++◌, length, Option, Some, None, refl, sym, ap, ◌∙◌, subst, arith, length-set, append-nil, slice_index}
+use Rattle.std.proofs.Common.{◌≡◌, ◌≤◌, ◌<◌, ℕ, zero, suc, ◌+◌, ◌-◌, Bool, true, false, nat_lt, List, [], ◌∷◌, ◌++◌, length, Option, Some, None, refl, sym, ap, ◌∙◌, subst, arith, append-nil}
 use Rattle.std.proofs.lemmas.Bool.Decides.{nat_tests}
 use Rattle.std.proofs.lemmas.Option.{slice_get_within}
 use Rattle.kt_law.specs.declared.limits.TheConstants.{DEFINITIONS, DEPTH, TASKS}
@@ -14,7 +14,6 @@ use Rattle.kt_prog.specs.Bodies.{script_of, index_in, task_at}
 use Rattle.kt_prog.specs.Entries.{tasks_of, indexes_of, faults_of}
 use Rattle.kt_prog.specs.Outcome.{answered, outcome_of}
 use Rattle.kt_prog.specs.Fits.{Fits, is_main, is_call, target_at, task_target}
-use Rattle.kt_prog.specs.Objects.{inputs_of}
 use Rattle.kt_prog.specs.Operations.{operations, end_of, is_loop_at, trace}
 use Rattle.kt_prog.specs.Reference.{placed, machine_of, main_placed, opened_with, reference}
 use Rattle.kt_prog.specs.Rights.{Directly, Forks}
@@ -22,18 +21,15 @@ use Rattle.kt_prog.specs.Runs.{FaultRun}
 use Rattle.kt_prog.specs.Targets.{Target, is_loop_of}
 use Rattle.kt_prog.specs.declared.programs.Program.{Program}
 use Rattle.kt_prog.specs.declared.programs.Task.{Task}
-use Rattle.kt_prog.specs.declared.runs.Outcome.TheVariants as N
 use Rattle.kt_prog.specs.declared.runs.Operation.{Operation}
 use Rattle.kt_prog.specs.declared.runs.Operation.TheVariants as O
 use Rattle.kt_prog.proofs.Plain.{plain}
 use Rattle.kt_prog.proofs.Targets.{task_of}
-use Rattle.kt_prog.proofs.LastWriter.{opened_length}
 use Rattle.kt_body.specs.Endings.{Begins, EndsSo, answers_of}
 use Rattle.kt_body.specs.declared.ops.Ended.{Ended}
 use Rattle.kt_body.specs.declared.ops.Ended.TheVariants as E
 use Rattle.kt_frames.specs.OnlyTasks.{HasOnlyTasks}
-use Rattle.kt_frames.specs.Owned.{HasFirsts, Moves, stands_at, never, place_in, store_after}
-use Rattle.kt_law.specs.Operators.{fold_of}
+use Rattle.kt_frames.specs.Owned.{Moves, stands_at, never}
 use Rattle.kt_frames.specs.Rest.{EachCall, IsCallAt, GoodStack, waiting, waiting_below, rest_of, rest_below, answered_from, least_with, fault_of, IsLive, left, to_do, limit_ran, ended_ran, Finishes, stays, more, with_frames, IsClaimed, TurnIs}
 use Rattle.kt_frames.specs.declared.owner.Turn.{Turn}
 use Rattle.kt_frames.specs.declared.owner.Turn.TheVariants as T
@@ -42,7 +38,6 @@ use Rattle.kt_frames.specs.declared.owner.Owner.{Owner}
 use Rattle.kt_frames.proofs.Layouts.{ended_none}
 use Rattle.kt_frames.proofs.Forking.{Free, both}
 use Rattle.kt_frames.proofs.TaskBodies.{NoKernel, forks_no_kernel, of_task, no_index, OfTask}
-use Rattle.kt_frames.proofs.Rightful.{IsThere, act_there}
 use Rattle.kt_frames.proofs.Alike.{OfCall, Alike, Went, goes_alike, forks_numbered, forks_each, calls_of, all_pushed, over_all, keeps_both, last_of, numbered, IsLast}
 use Rattle.kt_frames.proofs.Rests.{Fitting, pushed_fit, pushed_over, with_children, rest_ended, rest_begun, rest_count, answered_noted, answered_limit, answered_still, good_at, fits_deep}
 
@@ -86,21 +81,6 @@ kin_all p s t (more {t = u} h runs none) =
       rest = λ store. one.rest store ∙ two.rest store;
     }
 
--- no operation makes the store longer or shorter
-store_long : (firsts : List ℕ) (op : Operation) (s : List ℕ) → length (store_after firsts op s) ≡ length s
-store_long firsts (O.Load object element a) s = refl
-store_long firsts (O.Store object element v) s = length-set s (place_in firsts object element) v
-store_long firsts (O.Fold object element op v) s =
-    length-set s (place_in firsts object element) (fold_of op (slice_index s (place_in firsts object element)) v)
-store_long firsts (O.Fork call) s = refl
-store_long firsts O.End s = refl
-store_long firsts (O.Fault law line) s = refl
-
-went_long : (done : List Operation) (x y : Owner) → Went x done y → length y.store.items ≡ length x.store.items
-went_long [] x y w = ap (λ (o : Owner). length o.store.items) (sym w)
-went_long (op ∷ done) x y w =
-    went_long done w.0 y w.2 ∙ ap length w.1.store ∙ store_long x.firsts.items op x.store.items
-
 -- a claimed call is that of main or of a task
 module _ (p : Program) (ok : IsAccepted p) (only : HasOnlyTasks p) where
   abbrev m : Machine
@@ -143,10 +123,10 @@ module _ (p : Program) (ok : IsAccepted p) (only : HasOnlyTasks p) where
 
   -- what the body of a call at this depth does and forks
   call_keeps : (depth : ℕ) (call : CallTree) → IsCallAt p depth call
-      → Keeps (IsThere p.families) (OfCall (IsCallAt p (suc depth))) (script_of p (Whole call))
+      → Keeps (Directly p (Whole call)) (OfCall (IsCallAt p (suc depth))) (script_of p (Whole call))
   call_keeps depth call is =
-      keeps_both (Directly p (Whole call)) (IsThere p.families) (Forks p (Whole call)) NoKernel (OfCall (IsCallAt p (suc depth)))
-      (act_there p ok (Whole call)) forked Free (script_of p (Whole call)) (plain (λ w. w) p ok (Whole call) is.0)
+      keeps_both (Directly p (Whole call)) (Directly p (Whole call)) (Forks p (Whole call)) NoKernel (OfCall (IsCallAt p (suc depth)))
+      (λ act d. d) forked Free (script_of p (Whole call)) (plain (λ w. w) p ok (Whole call) is.0)
       (forks_no_kernel p ok only call is.2)
     where
       forked : (job : Job) → Forks p (Whole call) job → NoKernel job → OfCall (IsCallAt p (suc depth)) job
@@ -156,33 +136,31 @@ module _ (p : Program) (ok : IsAccepted p) (only : HasOnlyTasks p) where
   -- the body of a claimed task is done as it is alone
   pub record Body (x y : Owner) (path : List ℕ) (depth : ℕ) (call : CallTree) (ended : Ended) (cs : List CallTree) : Type 0 where
     pub last : Operation
-    pub alike : Alike p x y (alone m (placed path 1 (script_of p (Whole call))) x.store.items) last
-    pub calls : cs ≡ calls_of (alone m (placed path 1 (script_of p (Whole call))) x.store.items).forks
-    pub forks : (alone m (placed path 1 (script_of p (Whole call))) x.store.items).forks ≡ numbered path 1 cs
+    pub alike : Alike p x y (alone m (placed path 1 (script_of p (Whole call))) x.store.elements) last
+    pub calls : cs ≡ calls_of (alone m (placed path 1 (script_of p (Whole call))) x.store.elements).forks
+    pub forks : (alone m (placed path 1 (script_of p (Whole call))) x.store.elements).forks ≡ numbered path 1 cs
     pub each : EachCall (IsCallAt p (suc depth)) cs
-    pub fault : (alone m (placed path 1 (script_of p (Whole call))) x.store.items).fault ≡ fault_of ended
-    pub long : length y.store.items ≡ length x.store.items
+    pub fault : (alone m (placed path 1 (script_of p (Whole call))) x.store.elements).fault ≡ fault_of ended
 
   body_with : (x y : Owner) (path : List ℕ) (depth : ℕ) (call : CallTree) (ended : Ended) (done : List Operation) (last : Operation)
-      → IsCallAt p depth call → HasFirsts p.families x.firsts.items → IsLast last
+      → IsCallAt p depth call → x.store.program ≡ p → IsLast last
       → operations p (Whole call) (answers_of done) ≡ done ++ last ∷ [] → Went x done y
       → ((f : Option Fault) → last ≡ last_of f → f ≡ fault_of ended)
-      → Body x y path depth call ended (calls_of (alone m (placed path 1 (script_of p (Whole call))) x.store.items).forks)
-  body_with x y path depth call ended done last is firsts is_last e w faults =
+      → Body x y path depth call ended (calls_of (alone m (placed path 1 (script_of p (Whole call))) x.store.elements).forks)
+  body_with x y path depth call ended done last is same is_last e w faults =
       let kept = call_keeps depth call is in
       let s = script_of p (Whole call) in
       let end : end_of p (Whole call) ≡ O.End ∷ [] = rw (no_loop call.task is.2) refl in
       let traced : trace (O.End ∷ []) s (answers_of done) ≡ done ++ last ∷ [] =
       subst (λ (ops : List Operation). trace ops s (answers_of done) ≡ done ++ last ∷ []) end e in
-      let alike = goes_alike p (IsCallAt p (suc depth)) last is_last s kept path 1 (answers_of done) done x y firsts traced w in
+      let alike = goes_alike p (Directly p (Whole call)) (IsCallAt p (suc depth)) last is_last s kept path 1 (answers_of done) done x y same traced w in
       record {
         last = last;
         alike = alike;
         calls = refl;
-        forks = forks_numbered p (IsThere p.families) (IsCallAt p (suc depth)) s kept path 1 x.store.items;
-        each = forks_each p (IsThere p.families) (IsCallAt p (suc depth)) s kept path 1 x.store.items;
-        fault = faults (alone m (placed path 1 s) x.store.items).fault alike.ends;
-        long = went_long done x y w;
+        forks = forks_numbered p (Directly p (Whole call)) (IsCallAt p (suc depth)) s kept path 1 x.store.elements;
+        each = forks_each p (Directly p (Whole call)) (IsCallAt p (suc depth)) s kept path 1 x.store.elements;
+        fault = faults (alone m (placed path 1 s) x.store.elements).fault alike.ends;
       }
 
   end_none : (f : Option Fault) → O.End ≡ last_of f → f ≡ None
@@ -197,12 +175,12 @@ module _ (p : Program) (ok : IsAccepted p) (only : HasOnlyTasks p) where
       rw (same, place) refl
 
   pub body_done : (x y : Owner) (path : List ℕ) (depth : ℕ) (call : CallTree) (ended : Ended) → IsCallAt p depth call
-      → HasFirsts p.families x.firsts.items → EndsSo stands_at Moves never p (Whole call) x y ended
-      → Body x y path depth call ended (calls_of (alone m (placed path 1 (script_of p (Whole call))) x.store.items).forks)
-  body_done x y path depth call E.Done is firsts e = body_with x y path depth call E.Done e.0 O.End is firsts tt e.1 e.2.went end_none
-  body_done x y path depth call (E.Fault law line) is firsts e =
-      body_with x y path depth call (E.Fault law line) e.0 (O.Fault law line) is firsts tt e.1 e.2.went (fault_some law line)
-  body_done x y path depth call E.Halted is firsts e = absurd e.5.at_halt
+      → x.store.program ≡ p → EndsSo stands_at Moves never p (Whole call) x y ended
+      → Body x y path depth call ended (calls_of (alone m (placed path 1 (script_of p (Whole call))) x.store.elements).forks)
+  body_done x y path depth call E.Done is same e = body_with x y path depth call E.Done e.0 O.End is same tt e.1 e.2.went end_none
+  body_done x y path depth call (E.Fault law line) is same e =
+      body_with x y path depth call (E.Fault law line) e.0 (O.Fault law line) is same tt e.1 e.2.went (fault_some law line)
+  body_done x y path depth call E.Halted is same e = absurd e.5.at_halt
 
   -- the children of the body stand in a frame over its task's
   abbrev opened_over : Stack → List CallTree → Stack
@@ -234,8 +212,7 @@ module _ (p : Program) (ok : IsAccepted p) (only : HasOnlyTasks p) where
     accepted = ok;
     fits = (claimed_at x s call h).0;
     stands = record {
-      firsts = h.live.firsts;
-      full = h.live.full;
+      program = h.live.program;
       running = subst IsRunning (sym (claimed_over x s call h)) (λ e. let bad : ⊥ = absurd_cons s.top s.below e in bad);
     };
     running = λ n. n;
@@ -247,7 +224,7 @@ module _ (p : Program) (ok : IsAccepted p) (only : HasOnlyTasks p) where
     path = entry_path s.below (suc s.top.finished)
 
     abbrev a : Alone m
-    a = alone m (placed path 1 (script_of p (Whole call))) x.store.items
+    a = alone m (placed path 1 (script_of p (Whole call))) x.store.elements
 
     abbrev cs : List CallTree
     cs = calls_of a.forks
@@ -256,12 +233,12 @@ module _ (p : Program) (ok : IsAccepted p) (only : HasOnlyTasks p) where
     ran = s.tasks - waiting s
 
     body : Body x y path (length s.below) call ended cs
-    body = body_done x y path (length s.below) call ended (claimed_at x s call h) h.live.firsts e
+    body = body_done x y path (length s.below) call ended (claimed_at x s call h) h.live.program e
 
     -- the run from here is the body and what is left behind it
     run_on : left p (with_frames x s) least ≡ answered_from p (least_with least path (fault_of ended)) (suc ran) (rest_of p (opened_over s cs) a.store)
     run_on =
-        ap (answered_from p least ran) (rest_begun p s call x.store.items cs h.live.good h.next body.forks body.each)
+        ap (answered_from p least ran) (rest_begun p s call x.store.elements cs h.live.good h.next body.forks body.each)
         ∙ answered_noted p least ran path call a.answers a.fault a.steps (rest_of p (with_children (begun s) cs) a.store)
         ∙ ap (λ (t : Stack). answered_from p (least_with least path a.fault) (suc ran) (rest_of p t a.store)) (begun_over s call cs h.next)
         ∙ ap (λ (f : Option Fault). answered_from p (least_with least path f) (suc ran) (rest_of p (opened_over s cs) a.store)) body.fault
@@ -306,8 +283,7 @@ module _ (p : Program) (ok : IsAccepted p) (only : HasOnlyTasks p) where
           let enough : s.tasks + length cs ≤ s.room = omega arith in
           let waiting_few : waiting (opened_over s cs) ≤ s.tasks + length cs = omega arith in
           record {
-            firsts = subst (HasFirsts p.families) (sym body.alike.firsts) h.live.firsts;
-            full = body.long ∙ h.live.full;
+            program = body.alike.program ∙ h.live.program;
             good = subst (GoodStack p) (sym frames_are) good;
             kept = o;
             room = ap (λ (t : Stack). t.room) frames_are ∙ h.live.room;
@@ -332,7 +308,7 @@ module _ (p : Program) (ok : IsAccepted p) (only : HasOnlyTasks p) where
           let counted = h.live.counted in
           let count : (s.tasks + length cs) - waiting (opened_over s cs) ≡ suc ran = omega arith in
           let l = least_with least path (fault_of ended) in
-          ap (λ (t : Stack). answered_from p l (t.tasks - waiting t) (rest_of p t y.store.items)) frames_are
+          ap (λ (t : Stack). answered_from p l (t.tasks - waiting t) (rest_of p t y.store.elements)) frames_are
           ∙ ap (λ (store : List ℕ). answered_from p l ((s.tasks + length cs) - waiting (opened_over s cs)) (rest_of p (opened_over s cs) store)) body.alike.store
           ∙ ap (λ (n : ℕ). answered_from p l n (rest_of p (opened_over s cs) a.store)) count
           ∙ sym run_on
@@ -354,8 +330,7 @@ live_finished p o t f h =
     let few = h.few in
     let counted = h.counted in
     record {
-      firsts = h.firsts;
-      full = h.full;
+      program = h.program;
       good = k.good h.good;
       kept = h.kept;
       room = sym room ∙ h.room;
@@ -366,9 +341,9 @@ live_finished p o t f h =
 pub left_finished : (p : Program) (o : Owner) (t : Stack) (least : Option FaultRun) → Finishes o.frames t → left p (with_frames o t) least ≡ left p o least
 left_finished p o t least f =
     let k = kin_all p o.frames t f in
-    ap (λ (n : ℕ). answered_from p least (n - waiting t) (rest_of p t o.store.items)) (sym k.tasks)
-    ∙ ap (λ (n : ℕ). answered_from p least (o.frames.tasks - n) (rest_of p t o.store.items)) (sym k.waits)
-    ∙ ap (λ (r : Run (machine_of p)). answered_from p least (o.frames.tasks - waiting o.frames) r) (sym (k.rest o.store.items))
+    ap (λ (n : ℕ). answered_from p least (n - waiting t) (rest_of p t o.store.elements)) (sym k.tasks)
+    ∙ ap (λ (n : ℕ). answered_from p least (o.frames.tasks - n) (rest_of p t o.store.elements)) (sym k.waits)
+    ∙ ap (λ (r : Run (machine_of p)). answered_from p least (o.frames.tasks - waiting o.frames) r) (sym (k.rest o.store.elements))
 
 pub to_do_finished : (p : Program) (o : Owner) (t : Stack) → Finishes o.frames t → to_do (with_frames o t) ≡ to_do o
 to_do_finished p o t f =
@@ -388,11 +363,11 @@ left_ended p o least h none below =
     let room = h.room in
     let count : o.frames.tasks - waiting o.frames ≡ o.frames.tasks = omega arith in
     let kept : o.frames.tasks ≤ TASKS = omega arith in
-    let rest : rest_of p o.frames o.store.items ≡ still_at (machine_of p) o.store.items =
-    rest_ended p o.frames o.store.items long ∙ ap (λ (b : List Frame). rest_below p b o.store.items) below in
-    ap (λ (n : ℕ). answered_from p least n (rest_of p o.frames o.store.items)) count
+    let rest : rest_of p o.frames o.store.elements ≡ still_at (machine_of p) o.store.elements =
+    rest_ended p o.frames o.store.elements long ∙ ap (λ (b : List Frame). rest_below p b o.store.elements) below in
+    ap (λ (n : ℕ). answered_from p least n (rest_of p o.frames o.store.elements)) count
     ∙ ap (answered_from p least o.frames.tasks) rest
-    ∙ answered_still p least o.frames.tasks o.store.items kept
+    ∙ answered_still p least o.frames.tasks o.store.elements kept
 
 pub turn_finished : (p : Program) (o : Owner) (t : Stack) (before : Option FaultRun) (new : Owner) (after : Option FaultRun) (turn : Turn)
     → Finishes o.frames t → TurnIs p (with_frames o t) before new after turn → TurnIs p o before new after turn
@@ -402,14 +377,12 @@ turn_finished p o t before new after T.Ended f h = (sym (left_finished p o t bef
 turn_finished p o t before new after T.Over f h = sym (left_finished p o t before f) ∙ h
 
 -- a run begins with main alone
-pub live_opened : (p : Program) (o : Owner) (input : List ℕ) → HasFirsts p.families o.firsts.items → o.store.items ≡ opened_with p.families input
-    → length input ≡ inputs_of p.families → o.frames ≡ opened TASKS → o.over ≡ false → IsLive p o
-live_opened p o input firsts store long frames over =
+pub live_opened : (p : Program) (o : Owner) → o.store.program ≡ p → o.frames ≡ opened TASKS → o.over ≡ false → IsLive p o
+live_opened p o program frames over =
     let good : GoodStack p (opened TASKS) = record { top = ((is_main refl, refl, omega arith), tt); below = tt } in
     let some : waiting (opened TASKS) ≤ 1 = omega arith in
     record {
-      firsts = firsts;
-      full = ap length store ∙ opened_length p.families input long;
+      program = program;
       good = subst (GoodStack p) (sym frames) good;
       kept = over;
       room = ap (λ (t : Stack). t.room) frames;
@@ -424,22 +397,13 @@ module _ (p : Program) (input : List ℕ) where
       ap (λ (es : List (Entry (machine_of p))). let r : Run (machine_of p) = record { store = x.store; entries = es } in r)
       (append-nil (x.entries ++ []) ∙ append-nil x.entries)
 
-  pub left_opened : (o : Owner) → o.store.items ≡ opened_with p.families input → o.frames ≡ opened TASKS → left p o None ≡ outcome_of p input
+  pub left_opened : (o : Owner) → o.store.elements ≡ opened_with p.families input → o.frames ≡ opened TASKS → left p o None ≡ outcome_of p input
   unfolding reference
   left_opened o store frames =
       let none : 1 - waiting (opened TASKS) ≡ 0 = omega arith in
       let r = whole (machine_of p) main_placed (opened_with p.families input) in
       let count : 0 + length (tasks_of p r.entries) ≡ length (tasks_of p r.entries) = omega arith in
-      ap (λ (t : Stack). answered_from p None (t.tasks - waiting t) (rest_of p t o.store.items)) frames
-      ∙ ap (λ (n : ℕ). answered_from p None n (rest_of p (opened TASKS) o.store.items)) none
-      ∙ ap (answered_from p None 0) (main_rest o.store.items ∙ ap (whole (machine_of p) main_placed) store)
+      ap (λ (t : Stack). answered_from p None (t.tasks - waiting t) (rest_of p t o.store.elements)) frames
+      ∙ ap (λ (n : ℕ). answered_from p None n (rest_of p (opened TASKS) o.store.elements)) none
+      ∙ ap (answered_from p None 0) (main_rest o.store.elements ∙ ap (whole (machine_of p) main_placed) store)
       ∙ ap (λ (n : ℕ). answered n (length (indexes_of p r.entries)) (faults_of p r.entries) r.store) count
-
--- the rows of a run that has ended are its store
-pub rows_long : (o : Owner) (least : Option FaultRun) (n : ℕ) → length o.store.items ≡ n → (rows : List ℕ)
-    → (ended_ran o least).outcome ≡ N.Rows rows → length rows ≡ n
-rows_long o None n long rows e = let same : o.store.items ≡ rows = cc in ap length (sym same) ∙ long
-rows_long o (Some f) n long rows e = cc
-
-pub limit_no_rows : (n : ℕ) (rows : List ℕ) → limit_ran.outcome ≡ N.Rows rows → length rows ≡ n
-limit_no_rows n rows e = cc

@@ -7,7 +7,6 @@ use Rattle.kt_prog.specs.Calls.{CallTree, Whole}
 use Rattle.kt_prog.specs.Script.{Fault}
 use Rattle.kt_prog.specs.Fits.{Fits}
 use Rattle.kt_prog.specs.Entries.{tasks_of, indexes_of, faults_of}
-use Rattle.kt_prog.specs.Objects.{elements_of}
 use Rattle.kt_prog.specs.Outcome.{answered, fault_before, fault_or_rows}
 use Rattle.kt_prog.specs.Runs.{FaultRun}
 use Rattle.kt_prog.specs.Reference.{Placed, machine_of}
@@ -17,7 +16,6 @@ use Rattle.kt_prog.specs.declared.runs.Outcome.TheVariants as O
 use Rattle.kt_body.specs.declared.ops.Ended.{Ended}
 use Rattle.kt_body.specs.declared.ops.Ended.TheVariants as E
 use Rattle.kt_frames.specs.Stack.{Frame, Stack, begun, entry_path, finished_top, next_of, IsRunning}
-use Rattle.kt_frames.specs.Owned.{HasFirsts}
 use Rattle.kt_frames.specs.declared.owner.Owner.{Owner}
 use Rattle.kt_frames.specs.declared.owner.Turn.{Turn}
 use Rattle.kt_frames.specs.declared.owner.Turn.TheVariants as T
@@ -96,8 +94,7 @@ fault_of E.Halted = None
 
 -- the owner stands between two tasks of a run of this program, which kept the limit so far
 pub record IsLive (p : Program) (o : Owner) : Type 0 where
-  pub firsts : HasFirsts p.families o.firsts.items
-  pub full : length o.store.items ≡ elements_of p.families
+  pub program : o.store.program ≡ p
   pub good : GoodStack p o.frames
   pub kept : o.over ≡ false
   pub room : o.frames.room ≡ TASKS
@@ -106,7 +103,7 @@ pub record IsLive (p : Program) (o : Owner) : Type 0 where
 
 -- what the run comes to from here
 abbrev pub left : Program → Owner → Option FaultRun → Ran
-left p o least = answered_from p least (o.frames.tasks - waiting o.frames) (rest_of p o.frames o.store.items)
+left p o least = answered_from p least (o.frames.tasks - waiting o.frames) (rest_of p o.frames o.store.elements)
 
 -- how many tasks there may be yet, and those that wait
 abbrev pub to_do : Owner → ℕ
@@ -116,12 +113,12 @@ abbrev pub limit_ran : Ran
 limit_ran = record { outcome = O.Limit; tasks = 0; indexes = 0 }
 
 abbrev pub ended_ran : Owner → Option FaultRun → Ran
-ended_ran o least = record { outcome = fault_or_rows o.store.items (with_least least []); tasks = o.frames.tasks; indexes = 0 }
+ended_ran o least = record { outcome = fault_or_rows o.store.elements (with_least least []); tasks = o.frames.tasks; indexes = 0 }
 
 -- the next task was run, and how the run stands then; or there is none more, or there were too many
 abbrev pub TurnIs : Program → Owner → Option FaultRun → Owner → Option FaultRun → Turn → Type 0
 TurnIs p old before new after T.Ran = IsLive p new × (left p new after ≡ left p old before) × (to_do new < to_do old)
-TurnIs p old before new after T.Ended = (left p old before ≡ ended_ran new after) × (length new.store.items ≡ elements_of p.families)
+TurnIs p old before new after T.Ended = (left p old before ≡ ended_ran new after) × (new.store.program ≡ p)
 TurnIs p old before new after T.Over = left p old before ≡ limit_ran
 
 -- tasks that had no entry left were finished, one after another
@@ -135,7 +132,7 @@ Claims old new None = Finishes old new × (next_of new ≡ None) × (new.below �
 Claims old new (Some call) = (t : Stack) × Finishes old t × (next_of t ≡ Some call) × (new ≡ begun t)
 
 abbrev pub with_frames : Owner → Stack → Owner
-with_frames o s = record { firsts = o.firsts; store = o.store; frames = s; over = o.over }
+with_frames o s = record { store = o.store; frames = s; over = o.over }
 
 -- the owner is live but for the call of this stack that it has just claimed
 pub record IsClaimed (p : Program) (o : Owner) (s : Stack) (call : CallTree) : Type 0 where

@@ -1,5 +1,4 @@
 // What the owner's loop does the operations of bodies on: one plain store and the stack of frames.
-ghost use Rattle.std.specs.Prelude.{◌≡◌, ◌<◌, ◌+◌, length, slice_index};
 ghost use Rattle.kt_prog.specs.Accepted.{IsAccepted};
 ghost use Rattle.kt_prog.specs.Calls.{Whole};
 ghost use Rattle.kt_body.specs.Endings.{Begins, EndsSo};
@@ -13,15 +12,14 @@ ghost use Rattle.kt_prog.specs.declared.runs.Operation.TheVariants.{Load, Store,
 use crate::faults::least_after;
 use crate::frames::{Frames, Pushed};
 use kt_body::{Ended, Got, Ops, Went, run_body};
-use kt_law::{Op, fold};
+use kt_law::Op;
 use kt_prog::{Call, FaultAt, Program};
+use kt_store::PlainStore;
 
-/// The elements of all objects, where each object's elements begin, and the tasks under way. `over` says that a task more
-/// was forked than there is room for.
+/// The store and the tasks under way. `over` says that a task more was forked than there is room for.
 #[derive(Drop)]
-pub struct Owner {
-    pub firsts: Vec<u32>,
-    pub store: Vec<u64>,
+pub struct Owner<'a> {
+    pub store: PlainStore<'a>,
     pub frames: Frames,
     pub over: bool,
 }
@@ -37,14 +35,7 @@ pub enum Turn {
     Over,
 }
 
-fn place(firsts: &[u32], object: u32, element: u32) -> usize
-    requires { object < length firsts.now }
-    ensures { result ≡ slice_index firsts.now object + element }
-{
-    firsts[object as usize] as usize + element as usize
-}
-
-impl Ops for Owner {
+impl<'a> Ops for Owner<'a> {
     ghost use Rattle.kt_frames.specs.Owned.{Moves, Stands};
 
     ghost at = { λ owner program job answers count. Stands owner program };
@@ -54,18 +45,16 @@ impl Ops for Owner {
     ghost halted = { λ owner. ⊥ };
 
     fn load(&mut self, object: u32, element: u32) -> Got {
-        Got::Value(self.store[place(&self.firsts, object, element)])
+        Got::Value(self.store.load(object, element))
     }
 
     fn store(&mut self, object: u32, element: u32, value: u64) -> Went {
-        let at = place(&self.firsts, object, element);
-        self.store[at] = value;
+        self.store.store(object, element, value);
         Went::Went
     }
 
     fn fold(&mut self, object: u32, element: u32, op: Op, value: u64) -> Went {
-        let at = place(&self.firsts, object, element);
-        self.store[at] = fold(op, self.store[at], value);
+        self.store.fold(object, element, op, value);
         Went::Went
     }
 

@@ -47,12 +47,13 @@ fn over() -> Ran
 
 /// What a run comes to once no task is left: the least fault, or else the rows.
 fn ended(owner: Owner, least: Option<FaultAt>) -> Ran
-    ensures { result ≡ ended_ran owner least }
+    ensures ran { result ≡ ended_ran owner.entry least }
+    ensures rows { (rows : List ℕ) → result.outcome ≡ Rows rows → length rows ≡ elements_of owner.entry.store.program.families }
 {
     let tasks = owner.frames.tasks();
     let outcome = match least {
         Some(fault) => Outcome::Fault(fault),
-        None => Outcome::Rows(Items::from_vec(owner.store)),
+        None => Outcome::Rows(Items::from_vec(owner.store.into_elements())),
     };
     Ran {
         outcome,

@@ -15,7 +15,7 @@ returns-in-None c =
     let o = with_frames c.args.owner.now c.claim.new.frames in (
       sym (left_finished c.args.program.now c.args.owner.now c.claim.new.frames c.args.least.now e.0)
           ∙ left_ended c.args.program.now o c.args.least.now (live_finished c.args.program.now c.args.owner.now c.claim.new.frames e.0 c.requires.live) e.1 e.2,
-      c.requires.live.full,
+      c.requires.live.program,
     )
 
 pub returns-in-Some : goal.returns-in-Some

@@ -1,7 +1,7 @@
 use Rattle.std.proofs.Common.{◌≡◌, ◌<◌, ℕ, length, vec_capacity}
 use Rattle.std.specs.List.{slice_index}
 use Rattle.kt_prog.specs.Objects.{first_element_of}
-use Rattle.kt_frames.proofs.opening.firsts_of.Given as goal
+use Rattle.kt_store.proofs.opening.firsts_of.Given as goal
 
 abbrev pub invariant-loop-object : goal.invariant-loop-object
 invariant-loop-object l = record {

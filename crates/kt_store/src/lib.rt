@@ -1,0 +1,9 @@
+//! The plain store of a run: the elements of all objects of a program in one list, and the acts of bodies done to them.
+#![tactic(auto)]
+
+mod opening;
+mod plain;
+#[cfg(test)]
+mod tests;
+
+pub use plain::PlainStore;
