@@ -20,7 +20,7 @@ abbrev Numbered : List ℕ → ℕ → List Placed → Type 0
 Numbered path k [] = Unit {0}
 Numbered path k (c ∷ cs) = (c ≡ placed_fork path k c.job) × Numbered path (suc k) cs
 
-placed_again : (path : List ℕ) (k : ℕ) (job : Job) → placed_fork path k job ≡ placed_fork path k (placed_fork path k job).job
+pub placed_again : (path : List ℕ) (k : ℕ) (job : Job) → placed_fork path k job ≡ placed_fork path k (placed_fork path k job).job
 placed_again path k (Whole call) = refl
 placed_again path k (Index call i) = refl
 

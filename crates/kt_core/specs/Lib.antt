@@ -6,4 +6,12 @@ pub mod States
 pub mod Numbers
 pub mod Loops
 pub mod CoreEvents
+pub mod Tables
+pub mod TableEvents
 pub mod Theorems
+pub mod TableLaws
+pub mod TableEnabled
+pub mod Links
+pub mod Steps
+pub mod Sound
+pub mod Driven

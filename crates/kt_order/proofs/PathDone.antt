@@ -37,7 +37,7 @@ module _ (m : Machine) where
   grown_settled zero get count = refl
   grown_settled (suc depth) get count = children_settled depth (grown_settled depth) get count 0 (count [])
 
-  tree_settled : (depth : ℕ) (get : Known m) (count : List ℕ → ℕ)
+  pub tree_settled : (depth : ℕ) (get : Known m) (count : List ℕ → ℕ)
       → settled m (tree_of m depth get count) ≡ map (λ p. entry_of m (get p)) (all_paths depth count)
   tree_settled depth get count = ap (λ es. entry_of m (get []) ∷ es) (append-nil (settled m (grown m depth get count)) ∙ grown_settled depth get count)
 

@@ -1,0 +1,5 @@
+use Rattle.kt_core.specs.Links.{AreDone}
+use Rattle.kt_core.proofs.links.count_settled.Given as goal
+
+abbrev pub invariant-loop-place : goal.invariant-loop-place
+invariant-loop-place l = AreDone l.rows l.numbers l.place

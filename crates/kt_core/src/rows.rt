@@ -1,0 +1,187 @@
+// The tasks of a core.
+ghost use Rattle.std.specs.Prelude.{◌≡◌, ◌≤◌, ◌<◌, ◌-◌, ◌^◌, ◌∷◌, ◌++◌, ◌↔◌, [], IfErr, IfOk, IsTrue, length};
+ghost use Rattle.kt_core.specs.Tables.{fault_of_row, fresh_row};
+ghost use Rattle.kt_core.specs.TableEvents.{in_phase, row_after, went_on};
+ghost use Rattle.kt_core.specs.declared.events.Phase.TheVariants as phase_is;
+ghost use Rattle.kt_prog.specs.declared.runs.Operation.TheVariants as operation_is;
+
+use crate::events::Phase;
+use arrayvec::ArrayVec;
+use kt_law::{F, NoMemory};
+use kt_prog::{Call, FaultAt, Operation, PATH};
+use std::alloc::Global;
+use std::marker::Model;
+
+/// The fault that ended a body, with the line of the statement that met it.
+#[derive(Clone, Copy, Debug, PartialEq, Eq)]
+pub struct BodyFault {
+    pub law: F,
+    pub line: u32,
+}
+
+/// A task.
+#[derive(Drop)]
+pub struct Row {
+    pub path: ArrayVec<u32, PATH>,
+    pub call: Call,
+    pub phase: Phase,
+    pub answers: Vec<u64>,
+    pub done: u64,
+    pub fault: Option<BodyFault>,
+}
+
+impl Model for Row {
+    ghost use Rattle.std.specs.Prelude.{option_map};
+    ghost use Rattle.kt_core.specs.Tables.{TaskRow, body_fault};
+
+    ghost Value = { TaskRow };
+
+    ghost view = { λ r. record {
+      path = r.path.items;
+      call = r.call;
+      phase = r.phase;
+      answers = r.answers.items;
+      done = r.done;
+      fault = option_map body_fault r.fault;
+    } };
+}
+
+impl Row {
+    /// A task that nobody has claimed.
+    pub fn new(alloc: Global, path: ArrayVec<u32, PATH>, call: Call) -> Row
+        ensures { result ≡ fresh_row path.items call }
+    {
+        Row {
+            path,
+            call,
+            phase: Phase::Unclaimed,
+            answers: Vec::new(alloc),
+            done: 0,
+            fault: None,
+        }
+    }
+
+    pub fn phase(&self) -> Phase
+        ensures { result ≡ self.now.phase }
+    {
+        self.phase
+    }
+
+    /// The fault that ended its body, with its path.
+    pub fn fault(&self) -> Option<FaultAt>
+        ensures { result ≡ fault_of_row self.now }
+    {
+        match self.fault {
+            Some(fault) => Some(FaultAt {
+                path: copied_path(self.path.as_slice()),
+                index: None,
+                fault: fault.law,
+                line: fault.line,
+            }),
+            None => None,
+        }
+    }
+
+    /// The path of a child with this number.
+    pub fn child_path(&self, number: u32) -> ArrayVec<u32, PATH>
+        requires { length self.now.path < PATH }
+        ensures { result.items ≡ self.now.path ++ number ∷ [] }
+    {
+        let mut path = copied_path(self.path.as_slice());
+        path.push(number);
+        path
+    }
+
+    pub fn set_phase(&mut self, phase: Phase)
+        ensures { self.new ≡ in_phase phase self.old }
+    {
+        self.phase = phase;
+    }
+
+    /// Whether one operation more can be counted.
+    pub fn can_go_on(&self) -> bool
+        ensures { IsTrue result ↔ (self.now.done < 2 ^ 64 - 1) }
+    {
+        self.done < u64::MAX
+    }
+
+    /// Does what an operation makes of its task. Want of memory, and of room in the count of operations, changes nothing.
+    pub fn go_on(&mut self, operation: &Operation) -> Result<(), NoMemory>
+        ensures done { IfOk result (λ _. self.new ≡ row_after operation.now self.old) }
+        ensures same { IfErr result (λ _. self.new ≡ self.old) }
+    {
+        if !self.can_go_on() {
+            return Err(NoMemory);
+        }
+        match operation {
+            Operation::Load(_, _, value) => self.hear(*value),
+            Operation::Store(_, _, _) => {
+                self.count();
+                Ok(())
+            }
+            Operation::Fold(_, _, _, _) => {
+                self.count();
+                Ok(())
+            }
+            Operation::Fork(_) => {
+                self.count();
+                Ok(())
+            }
+            Operation::End => {
+                self.end();
+                Ok(())
+            }
+            Operation::Fault(law, line) => {
+                self.fail(*law, *line);
+                Ok(())
+            }
+        }
+    }
+
+    /// Counts an operation that heard nothing.
+    pub fn count(&mut self)
+        requires { self.old.done < 2 ^ 64 - 1 }
+        ensures { self.new ≡ went_on [] self.old }
+    {
+        self.done += 1;
+    }
+
+    fn hear(&mut self, value: u64) -> Result<(), NoMemory>
+        requires { self.old.done < 2 ^ 64 - 1 }
+        ensures done { IfOk result (λ _. self.new ≡ went_on (value ∷ []) self.old) }
+        ensures same { IfErr result (λ _. self.new ≡ self.old) }
+    {
+        self.answers.push(value)?;
+        self.done += 1;
+        Ok(())
+    }
+
+    fn end(&mut self)
+        requires { self.old.done < 2 ^ 64 - 1 }
+        ensures { self.new ≡ in_phase phase_is.Ended (went_on [] self.old) }
+    {
+        self.phase = Phase::Ended;
+        self.done += 1;
+    }
+
+    fn fail(&mut self, law: F, line: u32)
+        requires { self.old.done < 2 ^ 64 - 1 }
+        ensures { self.new ≡ row_after (operation_is.Fault law line) self.old }
+    {
+        self.phase = Phase::Ended;
+        self.fault = Some(BodyFault { law, line });
+        self.done += 1;
+    }
+}
+
+/// The same path once more, which takes no memory.
+pub fn copied_path(from: &[u32]) -> ArrayVec<u32, PATH>
+    requires { length from.now ≤ PATH }
+    ensures { result.items ≡ from.now }
+{
+    let mut path = ArrayVec::new();
+    match path.try_extend_from_slice(from) {
+        Ok(()) => path,
+        Err(_) => unreachable!(),
+    }
+}
