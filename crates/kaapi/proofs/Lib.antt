@@ -1,3 +1,4 @@
 pub mod JobReplies
 pub mod Endings
 pub mod OneAnswer
+pub mod FewWorkers

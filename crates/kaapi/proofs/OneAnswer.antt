@@ -25,16 +25,14 @@ use Rattle.kt_read.specs.Answers.{IsAnswer as I, Unopens as U}
 use Rattle.kt_read.specs.Answers.IsRefused.{unread, broken}
 use Rattle.kt_read.specs.Jobs.{IsJob}
 use Rattle.kt_read.specs.Laws.{OneJob, OneRefusal, JobIsRead}
-use Rattle.kaapi.specs.Answers.{AnswersCheck, AnswersSeq, AnswersAsked, AnswersJob, AnswersCommand, told}
+use Rattle.kaapi.specs.Answers.{AnswersCheck, AnswersRun, AnswersJob, AnswersCommand, told}
 use Rattle.kaapi.specs.Answers.{AnswersCheck as K}
 use Rattle.kaapi.specs.Answers.AnswersJob.{too_long, within}
-use Rattle.kaapi.specs.Answers.AnswersSeq.{mixed, run}
+use Rattle.kaapi.specs.Answers.AnswersRun.{mixed, run}
 use Rattle.kaapi.specs.Exits.{number_of}
 use Rattle.kaapi.specs.Laws.{OneAnswer}
 use Rattle.kaapi.specs.declared.exits.Exit.{Exit}
 use Rattle.kaapi.specs.declared.exits.Exit.TheVariants as E
-use Rattle.kaapi.specs.declared.jobs.Asked.{Asked}
-use Rattle.kaapi.specs.declared.jobs.Asked.TheVariants as A
 use Rattle.kaapi.proofs.JobReplies.{answered_by, never_accepted, not_accepted}
 
 both : {b : Bool} → b ≡ true → b ≡ false → ⊥
@@ -153,26 +151,23 @@ module _ (one_job : OneJob) (one_refusal : OneRefusal) (is_read : JobIsRead) whe
       let texts : a.text ≡ b.text = ap (λ (x : Answered). x.text) h in
       ap (λ exit. let r : Said Exit = record { exit = exit; text = a.text } in r) exits ∙ ap (λ text. let r : Said Exit = record { exit = b.exit; text = text } in r) texts
 
-  one_seq : (job : List ℕ) (a b : Said Exit) → AnswersSeq job a → AnswersSeq job b → a ≡ b
-  one_seq job a b (mixed reads accepted no_tasks) (mixed other also none) = refl
-  one_seq job a b (mixed {p} {from} reads accepted more) (run only k) = absurd (both (only p from reads accepted) more)
-  one_seq job a b (run only h) (mixed {p} {from} reads accepted more) = absurd (both (only p from reads accepted) more)
-  one_seq job a b (run only h) (run also k) = same_reply a b (one_run job (answered_by a) (answered_by b) h k)
+  one_run_answer : (job : List ℕ) (a b : Said Exit) → AnswersRun job a → AnswersRun job b → a ≡ b
+  one_run_answer job a b (mixed reads accepted no_tasks) (mixed other also none) = refl
+  one_run_answer job a b (mixed {p} {from} reads accepted more) (run only k) = absurd (both (only p from reads accepted) more)
+  one_run_answer job a b (run only h) (mixed {p} {from} reads accepted more) = absurd (both (only p from reads accepted) more)
+  one_run_answer job a b (run only h) (run also k) = same_reply a b (one_run job (answered_by a) (answered_by b) h k)
 
-  one_asked : (asked : Asked) (job : List ℕ) (a b : Said Exit) → AnswersAsked asked job a → AnswersAsked asked job b → a ≡ b
-  one_asked A.Check job a b h k = one_check job a b h k
-  one_asked A.Seq job a b h k = one_seq job a b h k
-
-  one_job_answer : (asked : Asked) (job : List ℕ) (a b : Said Exit) → AnswersJob asked job a → AnswersJob asked job b → a ≡ b
-  one_job_answer asked job a b (too_long h) (too_long k) = refl
-  one_job_answer asked job a b (too_long h) (within few k) = absurd (omega arith)
-  one_job_answer asked job a b (within few h) (too_long k) = absurd (omega arith)
-  one_job_answer asked job a b (within few h) (within also k) = one_asked asked job a b h k
+  one_job_answer : (Given : List ℕ → Said Exit → Type 0) (job : List ℕ) → ((a b : Said Exit) → Given job a → Given job b → a ≡ b)
+      → (a b : Said Exit) → AnswersJob Given job a → AnswersJob Given job b → a ≡ b
+  one_job_answer Given job one a b (too_long h) (too_long k) = refl
+  one_job_answer Given job one a b (too_long h) (within few k) = absurd (omega arith)
+  one_job_answer Given job one a b (within few h) (too_long k) = absurd (omega arith)
+  one_job_answer Given job one a b (within few h) (within also k) = one a b h k
 
   one_command : (command : Option Command) (job : List ℕ) (a b : Said Exit) → AnswersCommand command job a → AnswersCommand command job b → a ≡ b
-  one_command (Some C.Check) job a b h k = one_job_answer A.Check job a b h k
-  one_command (Some C.Seq) job a b h k = one_job_answer A.Seq job a b h k
-  one_command (Some (C.Sim workers number)) job a b h k = h ∙ sym k
+  one_command (Some C.Check) job a b h k = one_job_answer AnswersCheck job (one_check job) a b h k
+  one_command (Some C.Seq) job a b h k = one_job_answer AnswersRun job (one_run_answer job) a b h k
+  one_command (Some (C.Sim workers number)) job a b h k = one_job_answer AnswersRun job (one_run_answer job) a b h k
   one_command (Some (C.Gen kind size number)) job a b h k = h ∙ sym k
   one_command (Some (C.Run workers)) job a b h k = h ∙ sym k
   one_command (Some (C.Demo kind size number workers)) job a b h k = h ∙ sym k

@@ -18,8 +18,8 @@ use Rattle.kt_read.specs.Jobs.{IsJob}
 use Rattle.kaapi.specs.Exits.{number_of}
 use Rattle.kaapi.specs.declared.exits.Exit.{Exit}
 use Rattle.kaapi.specs.declared.exits.Exit.TheVariants as E
-use Rattle.kaapi.specs.declared.jobs.Asked.{Asked}
-use Rattle.kaapi.specs.declared.jobs.Asked.TheVariants as A
+use Rattle.kaapi.specs.declared.asked.Asked.{Asked}
+use Rattle.kaapi.specs.declared.asked.Asked.TheVariants as A
 
 -- the exits that are no answers
 abbrev pub faults : Faults Exit
@@ -37,26 +37,26 @@ pub data AnswersCheck (job : List ℕ) : Said Exit → Type 0 where
   refused : {r : Refusal} → IsRefused job r → AnswersCheck job (told E.Refused (L.Refused r))
   printed : {p : Program} {from : ℕ} → IsJob job p from → IsAccepted p → AnswersCheck job (record { exit = E.Done; text = canonical_text p })
 
--- to `seq`: what the job is answered that is run, unless its program is accepted and has more than tasks
-pub data AnswersSeq (job : List ℕ) : Said Exit → Type 0 where
-  mixed : {p : Program} {from : ℕ} → IsJob job p from → IsAccepted p → only_tasks p ≡ false → AnswersSeq job not_built
+-- to `seq` and to `sim`: what the job is answered that is run, unless its program is accepted and has more than tasks
+pub data AnswersRun (job : List ℕ) : Said Exit → Type 0 where
+  mixed : {p : Program} {from : ℕ} → IsJob job p from → IsAccepted p → only_tasks p ≡ false → AnswersRun job not_built
   run : {reply : Said Exit} → ((p : Program) (from : ℕ) → IsJob job p from → IsAccepted p → only_tasks p ≡ true) →
-      IsAnswer job (record { status = number_of reply.exit; text = reply.text }) → AnswersSeq job reply
+      IsAnswer job (record { status = number_of reply.exit; text = reply.text }) → AnswersRun job reply
 
 abbrev pub AnswersAsked : Asked → List ℕ → Said Exit → Type 0
 AnswersAsked A.Check job reply = AnswersCheck job reply
-AnswersAsked A.Seq job reply = AnswersSeq job reply
+AnswersAsked (A.Run way) job reply = AnswersRun job reply
 
--- to words that ask for an answer to a job, of which there may be so many bytes
-pub data AnswersJob (asked : Asked) (job : List ℕ) : Said Exit → Type 0 where
-  too_long : JOB < length job → AnswersJob asked job (told E.TooLong L.TooLong)
-  within : {reply : Said Exit} → length job ≤ JOB → AnswersAsked asked job reply → AnswersJob asked job reply
+-- to words that ask for an answer to a job, of which there may be so many bytes; `Given` says what a job of so few is answered
+pub data AnswersJob (Given : List ℕ → Said Exit → Type 0) (job : List ℕ) : Said Exit → Type 0 where
+  too_long : JOB < length job → AnswersJob Given job (told E.TooLong L.TooLong)
+  within : {reply : Said Exit} → length job ≤ JOB → Given job reply → AnswersJob Given job reply
 
 -- to what the words ask for
 abbrev pub AnswersCommand : Option Command → List ℕ → Said Exit → Type 0
-AnswersCommand (Some C.Check) job reply = AnswersJob A.Check job reply
-AnswersCommand (Some C.Seq) job reply = AnswersJob A.Seq job reply
-AnswersCommand (Some (C.Sim workers number)) job reply = reply ≡ not_built
+AnswersCommand (Some C.Check) job reply = AnswersJob AnswersCheck job reply
+AnswersCommand (Some C.Seq) job reply = AnswersJob AnswersRun job reply
+AnswersCommand (Some (C.Sim workers number)) job reply = AnswersJob AnswersRun job reply
 AnswersCommand (Some (C.Gen kind size number)) job reply = reply ≡ not_built
 AnswersCommand (Some (C.Run workers)) job reply = reply ≡ told E.Usage L.Usage
 AnswersCommand (Some (C.Demo kind size number workers)) job reply = reply ≡ told E.Usage L.Usage
@@ -69,4 +69,5 @@ Answers words job reply = AnswersCommand (command_of words) job reply
 abbrev pub asks_job : Option Command → Bool
 asks_job (Some C.Check) = true
 asks_job (Some C.Seq) = true
+asks_job (Some (C.Sim workers number)) = true
 asks_job _ = false

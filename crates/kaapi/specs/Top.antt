@@ -5,7 +5,7 @@ use Rattle.kt_io.specs.Over.{Over, IsFaulty, IsUnwritten}
 use Rattle.kaapi.specs.Answers.{Answers, AnswersAsked, faults}
 use Rattle.kaapi.specs.declared.exits.Exit.{Exit}
 use Rattle.kaapi.specs.declared.exits.Exit.TheVariants as E
-use Rattle.kaapi.specs.declared.jobs.Asked.{Asked}
+use Rattle.kaapi.specs.declared.asked.Asked.{Asked}
 
 -- a reply of which this holds was sent, or there was no memory
 pub data SendsOrLacks (P : Said Exit → Type 0) (sink : Over) (exit : Exit) : Type 0 where

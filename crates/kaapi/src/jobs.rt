@@ -1,15 +1,17 @@
 // What a job is answered, made whole before any of it is written.
-ghost use Rattle.std.specs.Prelude.{◌≡◌, ◌≤◌, length, IfOk};
+ghost use Rattle.std.specs.Prelude.{◌≡◌, ◌≤◌, ℕ, List, length, IfOk};
 ghost use Rattle.kt_prog.specs.Accepted.{IsAccepted};
-ghost use Rattle.kt_prog.specs.Objects.{inputs_of};
+ghost use Rattle.kt_prog.specs.Objects.{elements_of, inputs_of};
 ghost use Rattle.kt_frames.specs.OnlyTasks.{HasOnlyTasks};
 ghost use Rattle.kt_prog.specs.Outcome.{outcome_of};
+ghost use Rattle.kt_prog.specs.declared.runs.Outcome.TheVariants.{Rows};
 ghost use Rattle.kt_read.specs.Answers.{IsAnswer, answered_run};
 ghost use Rattle.kt_read.specs.Jobs.{IsJob};
-ghost use Rattle.kaapi.specs.Answers.{AnswersAsked, AnswersCheck, AnswersSeq, not_built, told};
+ghost use Rattle.kaapi.specs.Answers.{AnswersAsked, AnswersCheck, AnswersRun, not_built, told};
 ghost use Rattle.kaapi.specs.Exits.{number_of};
 ghost use Rattle.kaapi.specs.Jobs.{IsOpened};
 
+use crate::asked::{Asked, Way};
 use crate::exits::Exit;
 use crate::replies::Reply;
 use kt_frames::{has_only_tasks, run_owner};
@@ -19,17 +21,9 @@ use kt_prog::laws::few_objects;
 use kt_prog::{Outcome, Program, check, inputs};
 use kt_read::laws::{job_is_read, one_job};
 use kt_read::{ReadRefusal, read_program};
+use kt_sim::simulate;
 use kt_text::{DataError, read_data};
 use std::alloc::Global;
-
-/// What is asked for a job.
-#[derive(Clone, Copy, Debug, PartialEq, Eq)]
-pub enum Asked {
-    /// Its canonical text.
-    Check,
-    /// Its run in reference order.
-    Seq,
-}
 
 /// A job that was read and checked.
 #[derive(Drop)]
@@ -49,7 +43,7 @@ pub fn reply_to(alloc: Global, asked: Asked, job: &[u8]) -> Result<Reply, NoMemo
 {
     match asked {
         Asked::Check => reply_to_check(alloc, job),
-        Asked::Seq => reply_to_seq(alloc, job),
+        Asked::Run(way) => reply_to_run(alloc, way, job),
     }
 }
 
@@ -81,9 +75,9 @@ fn reply_to_check(alloc: Global, job: &[u8]) -> Result<Reply, NoMemory>
     }
 }
 
-fn reply_to_seq(alloc: Global, job: &[u8]) -> Result<Reply, NoMemory>
+fn reply_to_run(alloc: Global, way: Way, job: &[u8]) -> Result<Reply, NoMemory>
     requires { length job.now ≤ JOB }
-    ensures { IfOk result (AnswersSeq job.now) }
+    ensures { IfOk result (AnswersRun job.now) }
 {
     one_job();
     job_is_read();
@@ -91,7 +85,7 @@ fn reply_to_seq(alloc: Global, job: &[u8]) -> Result<Reply, NoMemory>
         Opened::Refused(refusal) => reply_with(alloc, Exit::Refused, &Line::Refused(refusal)),
         Opened::Accepted(program, from) => {
             if has_only_tasks(&program) {
-                reply_to_run(alloc, job, &program, from)
+                reply_to_data(alloc, way, job, &program, from)
             } else {
                 Ok(Reply::new(Exit::NotBuilt, Vec::from_slice(alloc, NOT_BUILT)?))
             }
@@ -100,8 +94,9 @@ fn reply_to_seq(alloc: Global, job: &[u8]) -> Result<Reply, NoMemory>
 }
 
 // The data, and then the run.
-fn reply_to_run(
+fn reply_to_data(
     alloc: Global,
+    way: Way,
     job: &[u8],
     program: &Program,
     from: usize,
@@ -115,7 +110,7 @@ fn reply_to_run(
 {
     few_objects();
     match read_data(alloc, job, from, inputs(program)) {
-        Ok(input) => run(alloc, program, &input),
+        Ok(input) => run(alloc, way, program, &input),
         Err(DataError::BadNumber(place)) => {
             reply_with(alloc, Exit::BadData, &Line::BadNumber(place))
         }
@@ -127,20 +122,36 @@ fn reply_to_run(
     }
 }
 
-fn run(alloc: Global, program: &Program, input: &[u64]) -> Result<Reply, NoMemory>
+fn run(alloc: Global, way: Way, program: &Program, input: &[u64]) -> Result<Reply, NoMemory>
     requires accepted { IsAccepted program.now }
     requires tasks { HasOnlyTasks program.now }
     requires whole { length input.now ≡ inputs_of program.now.families }
     ensures { IfOk result (λ reply. record { status = number_of reply.exit; text = reply.text } ≡ answered_run program.now.families (outcome_of program.now input.now).outcome) }
 {
     few_objects();
-    match run_owner(alloc, program, input)?.outcome {
+    match outcome(alloc, way, program, input)? {
         Outcome::Rows(rows) => {
             let text = rows_bytes(alloc, program, rows.as_slice())?;
             Ok(Reply::new(Exit::Done, text))
         }
         Outcome::Fault(fault) => reply_with(alloc, Exit::Fault, &Line::Fault(fault)),
         Outcome::Limit => reply_with(alloc, Exit::Limit, &Line::Limit),
+    }
+}
+
+fn outcome(alloc: Global, way: Way, program: &Program, input: &[u64]) -> Result<Outcome, NoMemory>
+    requires accepted { IsAccepted program.now }
+    requires tasks { HasOnlyTasks program.now }
+    requires whole { length input.now ≡ inputs_of program.now.families }
+    ensures outcome { IfOk result (λ outcome. outcome ≡ (outcome_of program.now input.now).outcome) }
+    ensures rows { IfOk result (λ outcome. (rows : List ℕ) → outcome ≡ Rows rows → length rows ≡ elements_of program.now.families) }
+{
+    match way {
+        Way::Owner => Ok(run_owner(alloc, program, input)?.outcome),
+        Way::Events(choice) => {
+            let (ran, _) = simulate(alloc, program, input, choice.workers, choice.number)?;
+            Ok(ran.outcome)
+        }
     }
 }
 

@@ -1,6 +1,7 @@
-//! Answers a job on standard input: `kaapi check`, `kaapi seq`.
+//! Answers a job on standard input: `kaapi check`, `kaapi seq`, `kaapi sim W NUMBER`.
 #![tactic(auto)]
 
+mod asked;
 mod exits;
 mod jobs;
 mod laws;

@@ -113,6 +113,17 @@ fn end_whole(rt: &impl Abort, alloc: Global, cases: &[Case]) -> Result<(), Fail>
     Ok(())
 }
 
+// Whatever a job is answered in reference order it is answered by events, with any number of workers and any choice.
+fn end_alike(rt: &impl Abort, alloc: Global, cases: &[Case]) -> Result<(), Fail> {
+    for case in cases {
+        for words in ["seq", "sim 1 0", "sim 3 7", "sim 8 18446744073709551615"] {
+            let case = answers(words, case.job, case.exit, case.text);
+            ends(rt, alloc, &case, (100, 100), (0, 0))?;
+        }
+    }
+    Ok(())
+}
+
 #[test]
 fn runs_end_in_rows(rt: HostRuntime) -> Result<(), Fail> {
     let cases = [
@@ -132,7 +143,7 @@ fn runs_end_in_rows(rt: HostRuntime) -> Result<(), Fail> {
             "A[0] 10\nA[1] 11\nA[2] 12\nA[3] 13\n",
         ),
     ];
-    end_whole(&rt, rt.alloc(), &cases)
+    end_alike(&rt, rt.alloc(), &cases)
 }
 
 #[test]
@@ -146,7 +157,7 @@ fn runs_end_in_faults_and_limits(rt: HostRuntime) -> Result<(), Fail> {
         answers("seq", A_LOOP, Exit::NotBuilt, "not built\n"),
         answers("seq", A_KERNEL, Exit::NotBuilt, "not built\n"),
     ];
-    end_whole(&rt, rt.alloc(), &cases)
+    end_alike(&rt, rt.alloc(), &cases)
 }
 
 #[test]
@@ -171,9 +182,8 @@ fn data_are_refused(rt: HostRuntime) -> Result<(), Fail> {
             "data B3 4:3\n",
         ),
         answers("seq", "main {} data 5", Exit::BadData, "data B3 1:14\n"),
-        answers("check", "main {} data 5", Exit::Done, "main {\n}\ndata\n"),
     ];
-    end_whole(&rt, rt.alloc(), &cases)
+    end_alike(&rt, rt.alloc(), &cases)
 }
 
 #[test]
@@ -308,6 +318,7 @@ fn texts_are_printed(rt: HostRuntime) -> Result<(), Fail> {
     let cases = [
         answers("check", ROUND_TRIP, Exit::Done, CANONICAL),
         answers("check", CANONICAL, Exit::Done, CANONICAL),
+        answers("check", "main {} data 5", Exit::Done, "main {\n}\ndata\n"),
     ];
     end_whole(&rt, rt.alloc(), &cases)
 }
@@ -335,9 +346,9 @@ fn other_words_read_nothing(rt: HostRuntime) -> Result<(), Fail> {
         answers("demo scan 1 0 2", "", Exit::Usage, "usage\n"),
         answers("seq 1", "", Exit::Usage, "usage\n"),
         answers("Seq", "", Exit::Usage, "usage\n"),
+        answers("sim 0 1", "", Exit::Usage, "usage\n"),
         answers("sim 9 1", "", Exit::Usage, "usage\n"),
         answers("gen mul 26 0", "", Exit::Usage, "usage\n"),
-        answers("sim 3 7", "", Exit::NotBuilt, "not built\n"),
         answers("gen scan 1 0", "", Exit::NotBuilt, "not built\n"),
     ];
     for case in &cases {

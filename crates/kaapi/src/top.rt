@@ -7,8 +7,9 @@ ghost use Rattle.kaapi.specs.Answers.{Answers, AnswersAsked, AnswersJob, asks_jo
 ghost use Rattle.kaapi.specs.Top.{EndsWith, SendsOrLacks};
 ghost use Rattle.kaapi.specs.declared.exits.Exit.{Exit};
 
+use crate::asked::{Asked, Choice, Way};
 use crate::exits::Exit;
-use crate::jobs::{Asked, NOT_BUILT, reply_to};
+use crate::jobs::{NOT_BUILT, reply_to};
 use kt_io::{ReadError, Sink, Source, read_all, write_all};
 use kt_law::{JOB, NoMemory};
 use kt_print::{Line, line_bytes};
@@ -31,8 +32,13 @@ pub fn top_plain<S: Source, K: Sink>(
 {
     match read_words(words) {
         Ok(Command::Check) => answer_source(alloc, Asked::Check, source, sink),
-        Ok(Command::Seq) => answer_source(alloc, Asked::Seq, source, sink),
-        Ok(Command::Sim(..)) => send(sink, Exit::NotBuilt, NOT_BUILT),
+        Ok(Command::Seq) => answer_source(alloc, Asked::Run(Way::Owner), source, sink),
+        Ok(Command::Sim(workers, number)) => answer_source(
+            alloc,
+            Asked::Run(Way::Events(Choice { workers, number })),
+            source,
+            sink,
+        ),
         Ok(Command::Gen(..)) => send(sink, Exit::NotBuilt, NOT_BUILT),
         Ok(Command::Run(_)) => tell(alloc, Exit::Usage, &Line::Usage, sink),
         Ok(Command::Demo(..)) => tell(alloc, Exit::Usage, &Line::Usage, sink),
@@ -46,7 +52,7 @@ fn answer_source<S: Source, K: Sink>(
     source: &mut S,
     sink: &mut K,
 ) -> Exit
-    ensures answers { ForJob (S.left source.old) (λ job. EndsWith (AnswersJob asked job)
+    ensures answers { ForJob (S.left source.old) (λ job. EndsWith (AnswersJob (AnswersAsked asked) job)
         (over S.left S.faults source.old source.new) (over K.written K.faults sink.old sink.new) result) }
     ensures source_later { S.faults source.old ≤ S.faults source.new }
     ensures sink_later { K.faults sink.old ≤ K.faults sink.new }

@@ -15,7 +15,7 @@ returns-in-Ok-clause-answers g c =
     record {
       job = c.in-Ok.job.items;
       told = c.in-Ok.ensures.ok.told;
-      holds = ends (AnswersAsked c.args.asked c.in-Ok.job.items) (AnswersJob c.args.asked c.in-Ok.job.items) _ _ _ (λ reply answers. within few answers)
+      holds = ends (AnswersAsked c.args.asked c.in-Ok.job.items) (AnswersJob (AnswersAsked c.args.asked) c.in-Ok.job.items) _ _ _ (λ reply answers. within few answers)
           (rw c.deref.ensures.value at c.answer_job.ensures.sent);
     }
 
@@ -29,8 +29,8 @@ returns-in-Err-TooLong-clause-answers g c =
     record {
       job = long.bytes;
       told = long.told;
-      holds = ends (λ (reply : Said Exit). reply ≡ told E.TooLong L.TooLong) (AnswersJob c.args.asked long.bytes) _ _ _
-          (λ reply same. subst (AnswersJob c.args.asked long.bytes) (sym same) (too_long long.more)) c.tell.ensures.sent;
+      holds = ends (λ (reply : Said Exit). reply ≡ told E.TooLong L.TooLong) (AnswersJob (AnswersAsked c.args.asked) long.bytes) _ _ _
+          (λ reply same. subst (AnswersJob (AnswersAsked c.args.asked) long.bytes) (sym same) (too_long long.more)) c.tell.ensures.sent;
     }
 
 pub returns-in-Err-NoMemory-clause-answers : goal.returns-in-Err-NoMemory-clause-answers

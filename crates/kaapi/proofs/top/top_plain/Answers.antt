@@ -8,6 +8,7 @@ use Rattle.kaapi.specs.Answers.{AnswersCommand, not_built, told}
 use Rattle.kaapi.specs.Top.EndsWith.{answered}
 use Rattle.kaapi.specs.declared.exits.Exit.{Exit}
 use Rattle.kaapi.specs.declared.exits.Exit.TheVariants as E
+use Rattle.kaapi.proofs.FewWorkers.{few_workers}
 use Rattle.kaapi.proofs.Endings.{ends, for_any_job, for_job_then, of_command}
 use Rattle.kaapi.proofs.top.top_plain.Goals as goal
 
@@ -21,15 +22,20 @@ returns-in-Ok-Seq-clause-answers g c =
     let same = sym (ap Some c.in-Ok-Seq.field-0-is) ∙ sym (ap result_ok c.in-Ok-Seq.is) ∙ c.read_words.ensures in
     for_job_then _ _ _ (λ job h. of_command (texts_of c.args.words.now) job _ _ _ (Some C.Seq) same h) c.answer_source-in-Ok-Seq.ensures.answers
 
+pub invariant_of-answer_source : goal.invariant_of-answer_source
+invariant_of-answer_source g c =
+    let same = sym (ap Some c.in-Ok-Sim.field-0-is) ∙ sym (ap result_ok c.in-Ok-Sim.is) ∙ c.read_words.ensures in
+    record { few = few_workers (texts_of c.args.words.now) c.in-Ok-Sim.workers c.in-Ok-Sim.number (sym same) }
+
 pub returns-in-Ok-Sim-clause-answers : goal.returns-in-Ok-Sim-clause-answers
 returns-in-Ok-Sim-clause-answers g c =
     let same = sym (ap Some c.in-Ok-Sim.field-0-is) ∙ sym (ap result_ok c.in-Ok-Sim.is) ∙ c.read_words.ensures in
-    for_any_job _ _ (λ job. of_command (texts_of c.args.words.now) job _ _ _ _ same (answered not_built refl c.send.ensures.sent))
+    for_job_then _ _ _ (λ job h. of_command (texts_of c.args.words.now) job _ _ _ (Some (C.Sim c.in-Ok-Sim.workers c.in-Ok-Sim.number)) same h) c.answer_source-in-Ok-Sim.ensures.answers
 
 pub returns-in-Ok-Gen-clause-answers : goal.returns-in-Ok-Gen-clause-answers
 returns-in-Ok-Gen-clause-answers g c =
     let same = sym (ap Some c.in-Ok-Gen.field-0-is) ∙ sym (ap result_ok c.in-Ok-Gen.is) ∙ c.read_words.ensures in
-    for_any_job _ _ (λ job. of_command (texts_of c.args.words.now) job _ _ _ _ same (answered not_built refl c.send-in-Ok-Gen.ensures.sent))
+    for_any_job _ _ (λ job. of_command (texts_of c.args.words.now) job _ _ _ _ same (answered not_built refl c.send.ensures.sent))
 
 pub returns-in-Ok-Run-clause-answers : goal.returns-in-Ok-Run-clause-answers
 returns-in-Ok-Run-clause-answers g c =

@@ -1,0 +1,4 @@
+pub mod Simulated
+pub mod Choosing
+pub mod Turns
+pub mod Answering

@@ -1,0 +1,13 @@
+//! Runs of a program by events of its core alone, in an order that a number chooses: each gives the answer of the reference run.
+#![tactic(auto)]
+
+mod bodies;
+mod choices;
+mod faults;
+mod operations;
+mod run;
+#[cfg(test)]
+mod tests;
+mod turns;
+
+pub use run::simulate;
