@@ -5,12 +5,19 @@
 
 Outside the gate. Each job is written to a file and given to `kaapi check`:
   read     the last token before `data` is wrong, so that reading is all that is done
+  examples as `read`, a program of many definitions: the tasks and loops of examples/, again and again under new names
   check    the last statement breaks a rule, so that the whole program is read and checked
   print    the program is accepted, and its canonical text is written
   forks    as `check`, a text of forks, each of which looks up a task and an object
   blocks   as `check`, one block of all statements, in which the names are looked up
+Then texts with more than a program may have are checked, by how many:
+  objects  declarations of objects
+  tasks    tasks, each of which forks itself
+  lets     `let` statements of one block, each with the name before it
+  params   parameters of one task, and as many names in its body
+  ahead    forks in front of the tasks that they fork
 Sizes double, so that a time that is not linear shows. At last `kaapi seq` reads 2^20 numbers and writes their rows."""
-import pathlib, subprocess, sys, tempfile, time
+import pathlib, re, subprocess, sys, tempfile, time
 
 TOP = pathlib.Path(__file__).resolve().parent.parent
 LINE = "  P[3] = P[1] + v * 7 - satadd(P[2], min(v, 41));\n  for i in 0..v {\n    let w = i % 5;\n    P[i] = w;\n  }\n"
@@ -20,6 +27,16 @@ def tasks(size):
     """1,024 tasks, in all of about so many bytes."""
     body = LINE * max(1, size // 1024 // len(LINE))
     return "object A of 64;\n" + "".join(f"task t{k}(int v, x P) {{\n{body}}}\n" for k in range(1024))
+
+
+def examples(size):
+    """The tasks and loops of examples/, without their comments, as often as fits."""
+    parts = []
+    for path in sorted((TOP / "examples").glob("*.job")):
+        program = re.sub(r"#[^\n]*\n", "\n", path.read_text()).split("\ndata")[0]
+        parts += re.findall(r"^(task|loop) (\w+)(\(.*?^}\n)", program, re.S | re.M)
+    once = "".join(f"{kind} {name}{{k}}" + rest.replace("{", "{{").replace("}", "}}") for kind, name, rest in parts)
+    return "".join(once.format(k=k) for k in range(size // len(once)))
 
 
 def forks(size):
@@ -44,10 +61,25 @@ def blocks(size):
 
 def jobs(size):
     yield "read", tasks(size) + "main {} }\ndata\n"
+    yield "examples", examples(size) + "main {} }\ndata\n"
     yield "check", tasks(size) + "main { nothing = 1; }\ndata\n"
     yield "print", tasks(size) + "main {}\ndata\n"
     yield "forks", forks(size) + "  nothing = 1;\n}\ndata\n"
     yield "blocks", blocks(size) + "  nothing = 1;\n}\ndata\n"
+
+
+def many(count):
+    """Texts with so many of what a program may have few of."""
+    objects = "".join(f"object A{k} of 1;\n" for k in range(count))
+    yield "objects", objects + "main {}\ndata\n"
+    yield "tasks", "".join(f"task t{k}() {{ fork t{k}(); }}\n" for k in range(count)) + "main {}\ndata\n"
+    lets = "".join(f"  let v{k + 1} = v{k};\n" for k in range(count))
+    yield "lets", "main {\n  let v0 = 0;\n" + lets + "}\ndata\n"
+    params, names = ", ".join(f"int p{k}" for k in range(count)), "".join(f"  let v = p{k};\n" for k in range(count))
+    yield "params", f"task t({params}) {{\n{names}}}\nmain {{}}\ndata\n"
+    if count <= 40_000:
+        forks, bodies = "".join(f"  fork t{k}();\n" for k in range(count)), "".join(f"task t{k}() {{}}\n" for k in range(count))
+        yield "ahead", "main {\n" + forks + "}\n" + bodies + "data\n"
 
 
 def data():
@@ -75,13 +107,20 @@ def main():
                 job.write(text)
                 job.flush()
                 took = seconds(program, job.name)
-            print(f"{name:7} {len(text) / 1e6:5.1f} MB {took:7.2f} s {len(text) / 1e6 / took:7.1f} MB/s", flush=True)
+            print(f"{name:8} {len(text) / 1e6:5.1f} MB {took:7.2f} s {len(text) / 1e6 / took:7.1f} MB/s", flush=True)
+    for count in (20_000, 40_000, 80_000, 160_000, 320_000):
+        for name, text in many(count):
+            with tempfile.NamedTemporaryFile("w") as job:
+                job.write(text)
+                job.flush()
+                took = seconds(program, job.name)
+            print(f"{name:8} {count:7} {len(text) / 1e6:5.1f} MB {took:7.2f} s {len(text) / 1e6 / took:7.1f} MB/s", flush=True)
     text = data()
     with tempfile.NamedTemporaryFile("w") as job:
         job.write(text)
         job.flush()
         took = seconds(program, job.name, "seq")
-    print(f"data    {len(text) / 1e6:5.1f} MB {took:7.2f} s {len(text) / 1e6 / took:7.1f} MB/s", flush=True)
+    print(f"data     {len(text) / 1e6:5.1f} MB {took:7.2f} s {len(text) / 1e6 / took:7.1f} MB/s", flush=True)
 
 
 main()
