@@ -14,11 +14,12 @@ ghost use Rattle.kaapi.specs.Jobs.{IsOpened};
 use crate::asked::{Asked, Way};
 use crate::exits::Exit;
 use crate::replies::Reply;
+use kt_check::{CheckRefusal, check_indexed};
 use kt_frames::{has_only_tasks, run_owner};
 use kt_law::{JOB, NoMemory, Refusal};
 use kt_print::{Line, line_bytes, print_program, rows_bytes};
 use kt_prog::laws::few_objects;
-use kt_prog::{Outcome, Program, check, inputs};
+use kt_prog::{Outcome, Program, inputs};
 use kt_read::laws::{job_is_read, one_job};
 use kt_read::{ReadRefusal, read_program};
 use kt_sim::simulate;
@@ -56,9 +57,10 @@ fn open(alloc: Global, job: &[u8]) -> Result<Opened, NoMemory>
         Err(ReadRefusal::Refused(refusal)) => return Ok(Opened::Refused(refusal)),
         Err(ReadRefusal::NoMemory) => return Err(NoMemory),
     };
-    match check(&program) {
+    match check_indexed(alloc, &program) {
         Ok(()) => Ok(Opened::Accepted(program, from)),
-        Err(refusal) => Ok(Opened::Refused(refusal)),
+        Err(CheckRefusal::Refused(refusal)) => Ok(Opened::Refused(refusal)),
+        Err(CheckRefusal::NoMemory) => Err(NoMemory),
     }
 }
 

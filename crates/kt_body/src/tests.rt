@@ -1,8 +1,9 @@
 use crate::{Ended, Got, Ops, Went, run_body, run_zero};
 use arrayvec::ArrayVec;
+use kt_check::check;
 use kt_law::{BinOp, F, Mode, Op, Place};
 use kt_prog::{
-    Arg, ArgWhat, Call, Expr, Family, Main, Name, Param, Program, Sort, Stmt, Task, What, check,
+    Arg, ArgWhat, Call, Expr, Family, Main, Name, Param, Program, Sort, Stmt, Task, What,
 };
 use sqlite_items::{Boxed, Items};
 use std::alloc::{AllocError, Global};

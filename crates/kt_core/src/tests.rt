@@ -11,11 +11,12 @@ ghost use Rattle.kt_core.specs.Tables.{opening_state};
 use crate::{Core, Event, Phase, Why, laws, loops};
 use kt_body::laws::next_is_on_element;
 use kt_body::{Ended, Got, Ops, Went, run_body};
+use kt_check::check;
 use kt_law::{Mode, Op, Place};
 use kt_prog::laws::few_objects;
 use kt_prog::{
     Arg, ArgWhat, Call, Expr, Family, Main, Name, Operation, Param, Program, Sort, Stmt, Task,
-    What, check, inputs,
+    What, inputs,
 };
 use sqlite_items::{Boxed, Items};
 use std::alloc::{AllocError, Global};

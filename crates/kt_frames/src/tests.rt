@@ -1,10 +1,11 @@
 ghost use Rattle.kt_prog.specs.Names.{IsName};
 
 use crate::{Frames, Pushed, has_only_tasks, run_owner};
+use kt_check::check;
 use kt_law::{BinOp, F, Mode, Op, Place};
 use kt_prog::{
     Arg, ArgWhat, Call, Expr, Family, FaultAt, Main, Name, Outcome, Param, Program, Ran, Sort,
-    Stmt, Task, What, check, inputs, laws,
+    Stmt, Task, What, inputs, laws,
 };
 use sqlite_items::{Boxed, Items};
 use std::alloc::{AllocError, Global};

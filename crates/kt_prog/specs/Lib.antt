@@ -28,7 +28,3 @@ pub mod Entries
 pub mod Outcome
 pub mod LastWriter
 pub mod Laws
-pub mod Lets
-pub mod Chains
-pub mod Sights
-pub mod Late

@@ -2,7 +2,6 @@
 #![tactic(auto)]
 
 mod calls;
-mod checks;
 mod counts;
 mod faults;
 pub mod laws;
@@ -15,7 +14,6 @@ mod sight;
 mod tests;
 
 pub use calls::Call;
-pub use checks::check;
 pub use counts::{elements, first_element, inputs, objects, width};
 pub use names::Name;
 pub use programs::{

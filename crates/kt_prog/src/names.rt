@@ -11,7 +11,7 @@ use std::str;
 #[derive(Debug, Drop)]
 pub struct Name {
     bytes: [u8; WORD_BYTES],
-    len: usize,
+    len: u8,
 }
 
 impl Model for Name {
@@ -35,7 +35,10 @@ impl Name {
         let mut bytes = [0; WORD_BYTES];
         let len = text.len();
         bytes[..len].copy_from_slice(text);
-        Name { bytes, len }
+        Name {
+            bytes,
+            len: len as u8,
+        }
     }
 
     /// Its bytes, for comparing and copying.
@@ -43,7 +46,7 @@ impl Name {
         ensures bytes { result.now ≡ self.now }
         ensures name { IsName self.now }
     {
-        &self.bytes[..self.len]
+        &self.bytes[..usize::from(self.len)]
     }
 
     /// Its text, for printing and for comparing with words.

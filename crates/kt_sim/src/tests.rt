@@ -3,12 +3,13 @@ ghost use Rattle.kt_law.specs.declared.limits.TheConstants.{WORKERS};
 ghost use Rattle.kt_prog.specs.Names.{IsName};
 
 use crate::simulate;
+use kt_check::check;
 use kt_core::Core;
 use kt_frames::has_only_tasks;
 use kt_law::{BinOp, F, Mode, Op, Place};
 use kt_prog::{
     Arg, ArgWhat, Expr, Family, Main, Name, Outcome, Param, Program, Ran, Sort, Stmt, Task, What,
-    check, inputs, laws,
+    inputs, laws,
 };
 use sqlite_items::{Boxed, Items};
 use std::alloc::{AllocError, Global};

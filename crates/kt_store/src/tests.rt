@@ -1,8 +1,9 @@
 ghost use Rattle.kt_prog.specs.Names.{IsName};
 
 use crate::PlainStore;
+use kt_check::check;
 use kt_law::{Op, Place};
-use kt_prog::{Family, Main, Name, Program, check, inputs, laws, objects, width};
+use kt_prog::{Family, Main, Name, Program, inputs, laws, objects, width};
 use sqlite_items::Items;
 use std::alloc::{AllocError, Global};
 use std::test::Fail;

@@ -1,9 +1,8 @@
-use Rattle.kt_read.specs.ReadRefusals.{IsReadRefusal}
 use Rattle.kt_read.specs.Answers.IsRefused.{unread, broken}
 use Rattle.kaapi.proofs.jobs.open.Goals as goal
 
 pub returns-in-Err-Refused : goal.returns-in-Err-Refused
-returns-in-Err-Refused c = unread (rw c.in-Err-Refused.field-0-is at c.in-Err-Refused.ensures.refused)
+returns-in-Err-Refused c = rw c.in-Err-Refused.refusal-is (unread (rw c.in-Err-Refused.field-0-is at c.in-Err-Refused.ensures.refused))
 
-pub returns-in-Err : goal.returns-in-Err
-returns-in-Err c = broken c.in-Ok.ensures.job c.in-Err.ensures.refused
+pub returns-in-Err-Refused-check_indexed : goal.returns-in-Err-Refused-check_indexed
+returns-in-Err-Refused-check_indexed c = broken c.in-Ok.ensures.job (rw c.in-Err-Refused-check_indexed.field-0-is at c.in-Err-Refused-check_indexed.ensures.refused)

@@ -1,0 +1,9 @@
+pub mod Noted
+pub mod Equations
+pub mod Blocks
+pub mod Noting
+pub mod Sighting
+pub mod Chained
+pub mod ByName
+pub mod AnyOrder
+pub mod Passing

@@ -1,0 +1,8 @@
+use Rattle.std.proofs.Common.{◌≡◌, ℕ, ◌-◌, List, drop, map, nat_cmp}
+use Rattle.std.specs.BTreeMap.{get_by}
+use Rattle.std.specs.Cmp.Lexicographic.{slice_cmp}
+use Rattle.kt_check.specs.Beyond.{first_from, name_of_family}
+use Rattle.kt_check.proofs.beyond.map_families.Given as goal
+
+abbrev pub invariant-loop-done : goal.invariant-loop-done
+invariant-loop-done l = (name : List ℕ) → get_by (λ k. slice_cmp nat_cmp name k.now) l.places ≡ first_from (l.len - l.done) (map name_of_family (drop (l.len - l.done) l.families)) name

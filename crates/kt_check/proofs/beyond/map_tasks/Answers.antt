@@ -1,0 +1,7 @@
+use Rattle.std.proofs.Common.{refl}
+use Rattle.kt_check.specs.Beyond.{name_of_task}
+use Rattle.kt_check.proofs.ByName.{one_before}
+use Rattle.kt_check.proofs.beyond.map_tasks.Goals as goal
+
+pub loop-done-preserved : goal.loop-done-preserved
+loop-done-preserved c = one_before name_of_task _ _ _ _ c.as_bytes.result c.loop-done.places c.insert.new.self c.loop-done-test.true refl c.index-tasks-at.is c.as_bytes.ensures.bytes c.loop-done.invariant c.in_ok-insert.ensures.updates

@@ -1,0 +1,13 @@
+use Rattle.std.proofs.Common.{◌≡◌, ◌-◌, ◌<◌, ◌≤◌, drop, get_or}
+use Rattle.kt_check.specs.Chains.{hash_of}
+use Rattle.kt_check.proofs.Chained.{family_earlier}
+use Rattle.kt_check.proofs.lookups.is_family_before.Given as goal
+
+abbrev pub invariant-chain : goal.invariant-chain
+invariant-chain l =
+    (l.at ≤ l.covered)
+    × (l.at < l.covered → get_or l.chains l.at 0 ≡ hash_of l.name)
+    × (family_earlier (record { name = l.name; place = l.place }) 0 l.families ≡ family_earlier (record { name = l.name; place = l.place }) l.at (drop l.at l.families))
+
+abbrev pub decreases-chain : goal.decreases-chain
+decreases-chain l = l.covered - l.at

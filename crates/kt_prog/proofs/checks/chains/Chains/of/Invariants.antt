@@ -1,7 +1,0 @@
-use Rattle.std.proofs.Common.{◌≡◌, ◌-◌, length, take}
-use Rattle.kt_prog.specs.Chains.{IsLinked}
-use Rattle.kt_prog.specs.declared.checks.chains.TheConstants.{COVERED, HASHES}
-use Rattle.kt_prog.proofs.checks.chains.Chains.of.Given as goal
-
-abbrev pub invariant-loop-done : goal.invariant-loop-done
-invariant-loop-done l = (length l.heads ≡ HASHES) × (length l.next ≡ COVERED) × IsLinked (take l.len l.hashes) l.heads l.next (l.len - l.done)

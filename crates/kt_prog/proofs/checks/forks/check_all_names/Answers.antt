@@ -1,6 +1,0 @@
-use Rattle.std.proofs.Common.{refl, ◌∙◌}
-use Rattle.kt_prog.proofs.Noting.{unknown_next}
-use Rattle.kt_prog.proofs.checks.forks.check_all_names.Goals as goal
-
-pub loop-arg-preserved : goal.loop-arg-preserved
-loop-arg-preserved c = c.loop-arg.invariant ∙ unknown_next _ _ _ _ c.loop-arg-test.true c.arg-item.is _ ∙ rw c.check_names_in.ensures refl

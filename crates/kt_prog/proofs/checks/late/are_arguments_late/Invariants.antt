@@ -1,6 +1,0 @@
-use Rattle.std.proofs.Common.{◌≡◌, drop}
-use Rattle.kt_prog.specs.Late.{arguments_late}
-use Rattle.kt_prog.proofs.checks.late.are_arguments_late.Given as goal
-
-abbrev pub invariant-loop-arg : goal.invariant-loop-arg
-invariant-loop-arg l = arguments_late l.found l.args ≡ arguments_late l.found (drop l.arg-index l.args)
