@@ -12,37 +12,19 @@ use Rattle.kt_read.specs.declared.tokens.Symbol.TheVariants as S
 use Rattle.kt_read.specs.declared.tokens.Tok.{Tok}
 use Rattle.kt_read.specs.Ahead.{Ahead, next_of, mark_of}
 use Rattle.kt_read.specs.ArgumentResiduals.{AfterArgName, in_square, in_value, AfterIndex, ranged, indexed, AfterSquare, after_arguments, MoreArgs, no_more, one_more, Forked, AfterFirst, argued, lengthy}
-use Rattle.kt_read.specs.Expressions.{ReadsExpr, alone, compared, sum_of, no_term, product_of, no_factor, ReadsAtom, number, name, element, function, group}
+use Rattle.kt_read.specs.Expressions.{ReadsExpr, alone, sum_of, no_term, product_of, no_factor, ReadsAtom, number, name, element, function, group}
 use Rattle.kt_read.specs.Follows.{after_atom, after_expression, Follows}
 use Rattle.kt_read.specs.Reading.{Reads, Refuses, Deep, Answers, Sign, sign, AName, a_name}
-use Rattle.kt_read.specs.Residuals.{Then, Done, ExprThen, AfterName, bare, square, call, no_comparison, comparison, AfterAtom}
+use Rattle.kt_read.specs.Residuals.{Then, Done, ExprThen, AfterName, bare, square, call, AfterAtom}
 use Rattle.kt_read.specs.Statements.{ReadsArg, value, span, ReadsArgs, one_arg, more_args, ReadsMaybeArgs, no_args, some_args, ReadsForked, without_length, with_length}
 use Rattle.kt_read.specs.Tokens.{◌·◌, named}
-use Rattle.kt_read.proofs.ExpressionSteps.{may_not, from_after, name_less, name_more, factors_follow, sums_follow, expression_completes, expression_then_completes}
+use Rattle.kt_read.proofs.ExpressionSteps.{may_not, name_less, name_more, expr_split, expr_join, after_atom_follows, after_atom_ends, after_atom_completes, expression_completes, expression_then_completes}
 use Rattle.kt_read.proofs.Operators.{May}
 use Rattle.kt_read.proofs.Signs.{somewhere, done_completes}
 use Rattle.kt_read.proofs.Still.{Still, Completes, here, is, done, stuck, then_completes, heads, first_is}
 
 abbrev pub valued : Place → Expr → Arg
 valued p e = record { place = p; what = Value e }
-
--- ---- an expression is its first atom and what is behind it
-
-expr_split : {e : Expr} {ts us : List Tok} → ReadsExpr e ts us → Then ReadsAtom AfterAtom e ts us
-expr_split (alone (sum_of (product_of a f) t)) = (_, _, a, (_, _, f, (_, _, t, no_comparison)))
-expr_split (compared (sum_of (product_of a f) t) o b) = (_, _, a, (_, _, f, (_, _, t, comparison o b)))
-
-expr_join : {a e : Expr} {ts us vs : List Tok} → ReadsAtom a ts us → AfterAtom a e us vs → ReadsExpr e ts vs
-expr_join {e = e} {ts = ts} {vs = vs} r (b, ws, f, (c, xs, t, k)) = from_after c e ts xs vs (sum_of (product_of r f) t) k
-
-after_atom_follows : (a e : Expr) (us vs : List Tok) → AfterAtom a e us vs → Follows after_expression vs → Follows after_atom us
-after_atom_follows a e us vs k h = factors_follow a k.0 us k.1 k.2 (sums_follow k.0 e k.1 vs k.3 h)
-
-after_atom_ends : (a : Expr) (rest : List Tok) → AfterAtom a a rest rest
-after_atom_ends a rest = (a, rest, no_factor, (a, rest, no_term, no_comparison))
-
-pub after_atom_completes : (a : Expr) → Completes (AfterAtom a)
-after_atom_completes a = (a, [], after_atom_ends a)
 
 no_atom : {a : Expr} {us : List Tok} → ReadsAtom a [] us → ⊥
 no_atom r = elim r [ ]

@@ -13,9 +13,9 @@ use Rattle.kt_read.specs.Expressions.{ReadsExpr, alone, compared, ReadsSum, sum_
 use Rattle.kt_read.specs.Follows.{after_atom, after_product, after_sum, after_expression, Follows}
 use Rattle.kt_read.specs.Operators.{comparison_of, additive_of, multiplicative_of, function_of}
 use Rattle.kt_read.specs.Reading.{Reads, Sign, sign, AName, a_name, ANumber, a_number}
-use Rattle.kt_read.specs.Residuals.{Then, Done, Closing, ExprThen, AfterName, bare, square, call, AfterSum, no_comparison, comparison}
+use Rattle.kt_read.specs.Residuals.{Then, Done, Closing, ExprThen, AfterAtom, AfterName, bare, square, call, AfterSum, no_comparison, comparison}
 use Rattle.kt_read.specs.Tokens.{◌·◌, numbered}
-use Rattle.kt_read.proofs.Operators.{additive_may, multiplicative_may, comparison_may, product_to_atom, sum_to_product, expression_to_sum, additive_ends, multiplicative_ends, comparison_ends}
+use Rattle.kt_read.proofs.Operators.{NoOperator, no_operator, additive_may, multiplicative_may, comparison_may, product_to_atom, sum_to_product, expression_to_sum, additive_ends, multiplicative_ends, comparison_ends}
 use Rattle.kt_read.proofs.Signs.{mark_at, somewhere, done_completes, sign_completes}
 use Rattle.kt_read.proofs.Still.{Still, Advanced, Completes, GoesOnWith, here, is, step, done, then_completes}
 
@@ -152,19 +152,9 @@ pub from_after : (a e : Expr) (ts vs us : List Tok) → ReadsSum a ts vs → Aft
 from_after a e ts vs us s no_comparison = alone s
 from_after a e ts vs us s (comparison o b) = compared s o b
 
-from_sum : (e : Expr) (ts us : List Tok) → Then ReadsSum AfterSum e ts us → ReadsExpr e ts us
-from_sum e ts us q = from_after q.0 e ts q.1 us q.2 q.3
-
-to_sum : (e : Expr) (ts us : List Tok) → ReadsExpr e ts us → Then ReadsSum AfterSum e ts us
-to_sum e ts us (alone s) = (_, _, s, no_comparison)
-to_sum e ts us (compared s o b) = (_, _, s, comparison o b)
-
 pub after_sum_follow : (a e : Expr) (vs us : List Tok) → AfterSum a e vs us → Follows after_expression us → Follows after_sum vs
 after_sum_follow a e vs us no_comparison h = expression_to_sum us h
 after_sum_follow a e vs us (comparison {op = op} {t = t} o b) h = comparison_may t.symbol op o
-
-pub expression_here : (old : Ahead) → Still ReadsExpr after_expression old old (Then ReadsSum AfterSum)
-expression_here old = is (here old) from_sum (λ a more rest r h. to_sum a _ rest r)
 
 comparison_more : (a : Expr) (t : Tok) (op : BinOp) → comparison_of t.symbol ≡ Some op → (e : Expr) (more rest : List Tok) →
     AfterSum a e (t ∷ more) rest → Follows after_expression rest → Then ReadsSum (λ b. Done (Bin op a b)) e more rest
@@ -317,3 +307,35 @@ sums_follow b e vs us k h = terms_follow b k.0 vs k.1 k.2 (after_sum_follow k.0 
 
 pub sums_complete : (b : Expr) → Completes (Then (ReadsTerms b) AfterSum)
 sums_complete b = then_completes (ReadsTerms b) AfterSum b [] (λ rest. no_term) (after_sum_completes b)
+
+-- ---- an expression is its first atom and what is behind it
+
+pub expr_split : {e : Expr} {ts us : List Tok} → ReadsExpr e ts us → Then ReadsAtom AfterAtom e ts us
+expr_split (alone (sum_of (product_of a f) t)) = (_, _, a, (_, _, f, (_, _, t, no_comparison)))
+expr_split (compared (sum_of (product_of a f) t) o b) = (_, _, a, (_, _, f, (_, _, t, comparison o b)))
+
+pub expr_join : {a e : Expr} {ts us vs : List Tok} → ReadsAtom a ts us → AfterAtom a e us vs → ReadsExpr e ts vs
+expr_join {e = e} {ts = ts} {vs = vs} r (b, ws, f, (c, xs, t, k)) = from_after c e ts xs vs (sum_of (product_of r f) t) k
+
+pub after_atom_follows : (a e : Expr) (us vs : List Tok) → AfterAtom a e us vs → Follows after_expression vs → Follows after_atom us
+after_atom_follows a e us vs k h = factors_follow a k.0 us k.1 k.2 (sums_follow k.0 e k.1 vs k.3 h)
+
+pub after_atom_ends : (a : Expr) (rest : List Tok) → AfterAtom a a rest rest
+after_atom_ends a rest = (a, rest, no_factor, (a, rest, no_term, no_comparison))
+
+pub after_atom_completes : (a : Expr) → Completes (AfterAtom a)
+after_atom_completes a = (a, [], after_atom_ends a)
+
+pub expression_here : (old : Ahead) → Still ReadsExpr after_expression old old (Then ReadsAtom AfterAtom)
+expression_here old = is (here old) (λ e more rest q. expr_join q.2 q.3) (λ e more rest r h. expr_split r)
+
+after_atom_none : (a : Expr) (t : Tok) → NoOperator t.symbol → (e : Expr) (more rest : List Tok) → AfterAtom a e (t ∷ more) rest → Done a e (t ∷ more) rest
+after_atom_none a t n e more rest (b, us, no_factor, (c, vs, no_term, no_comparison)) = (refl, refl)
+after_atom_none a t n e more rest (b, us, one_factor o p r, k) = let f = n.no_multiplicative in cc
+after_atom_none a t n e more rest (b, us, no_factor, (c, vs, one_term o p r, k)) = let f = n.no_additive in cc
+after_atom_none a t n e more rest (b, us, no_factor, (c, vs, no_term, comparison o r)) = let f = n.no_comparison in cc
+
+pub atom_end : (old : Ahead) (a : Expr) → after_expression (next_of old).symbol ≡ true → Reads (AfterAtom a) after_expression old old a
+atom_end old a m = done (is (here old)
+    (λ e more rest d. subst (λ x. AfterAtom a x more rest) (sym d.0) (subst (λ us. AfterAtom a a more us) (sym d.1) (after_atom_ends a more)))
+    (λ e more rest r h. after_atom_none a (next_of old) (no_operator (next_of old).symbol m) e more rest r))

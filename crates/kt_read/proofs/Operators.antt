@@ -89,6 +89,28 @@ comparison_ends (S.Mark T.Gt) op e h = h
 comparison_ends (S.Mark T.Ge) op e h = h
 comparison_ends _ op e h = cc
 
+-- what may follow an expression is no operator
+pub record NoOperator (s : Symbol) : Type 0 where
+  pub no_comparison : comparison_of s ≡ None
+  pub no_additive : additive_of s ≡ None
+  pub no_multiplicative : multiplicative_of s ≡ None
+
+pub no_operator : (s : Symbol) → after_expression s ≡ true → NoOperator s
+no_operator (S.Mark T.SquareOpen) e = cc
+no_operator (S.Mark T.ParenOpen) e = cc
+no_operator (S.Mark T.Star) e = cc
+no_operator (S.Mark T.Slash) e = cc
+no_operator (S.Mark T.Percent) e = cc
+no_operator (S.Mark T.Plus) e = cc
+no_operator (S.Mark T.Minus) e = cc
+no_operator (S.Mark T.Eq) e = cc
+no_operator (S.Mark T.Ne) e = cc
+no_operator (S.Mark T.Lt) e = cc
+no_operator (S.Mark T.Le) e = cc
+no_operator (S.Mark T.Gt) e = cc
+no_operator (S.Mark T.Ge) e = cc
+no_operator _ e = record { no_comparison = refl; no_additive = refl; no_multiplicative = refl }
+
 -- an operator is not the end
 operator_is_token : (f : Symbol → Option BinOp) → f S.End ≡ None → (s : Symbol) (op : BinOp) → f s ≡ Some op → s ≡ S.End → ⊥
 operator_is_token f n s op e h = let g : None ≡ Some op = sym n ∙ ap f (sym h) ∙ e in absurd cc

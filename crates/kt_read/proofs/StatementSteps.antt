@@ -1,6 +1,7 @@
 -- What is left of a statement, step by step.
-use Rattle.std.proofs.Common.{◌≡◌, ℕ, Bool, List, [], ◌∷◌, ◌++◌, refl, ap, sym, subst, ◌∙◌, append_assoc, Option, Some, None}
-use Rattle.std.proofs.lemmas.List.{append-nil}
+use Rattle.std.proofs.Common.{◌≡◌, ◌≤◌, ℕ, ◌+◌, Bool, List, [], ◌∷◌, ◌++◌, arith, drop, length, take, refl, ap, sym, subst, ◌∙◌, append_assoc, Option, Some, None}
+use Rattle.std.proofs.lemmas.List.{append-nil, length-append}
+use Rattle.std.proofs.Math.Seq.{drop-append_seam, take-append_seam}
 use Rattle.kt_law.specs.declared.operators.Op.{Op}
 use Rattle.kt_law.specs.declared.places.Place.{Place}
 use Rattle.kt_prog.specs.declared.programs.Arg.{Arg}
@@ -446,3 +447,17 @@ end_more read all t m more rest (one_more_stmt {s = s} {us = us} r k) = absurd (
 pub end_left : {old cur : Ahead} (read : List Stmt) → Still ReadsBlock any old cur (MoreStmts read) → mark_of (next_of cur).symbol ≡ Some T.BraceClose →
     Still ReadsBlock any old cur (Closing T.BraceClose read)
 end_left {cur = cur} read s m = is s (end_less read) (λ all more rest r h. end_more read all (next_of cur) m more rest r)
+
+-- ---- the statements of a block stand behind those of the blocks around it
+
+pub one_behind : (before own all new : List Stmt) (s : Stmt) → all ≡ before ++ own → new ≡ all ++ s ∷ [] → new ≡ before ++ (own ++ s ∷ [])
+one_behind before own all new s e f = f ∙ ap (λ xs. xs ++ s ∷ []) e ∙ append_assoc before own (s ∷ [])
+
+pub begins_within : (begin : ℕ) (before own all : List Stmt) → all ≡ before ++ own → begin ≡ length before → begin ≤ length all
+begins_within begin before own all e f = let g : length all ≡ length before + length own = ap length e ∙ length-append before own in omega (arith, f, g)
+
+pub own_behind : (begin : ℕ) (before own all : List Stmt) → all ≡ before ++ own → begin ≡ length before → drop begin all ≡ own
+own_behind begin before own all e f = rw (e, f) (drop-append_seam before own)
+
+pub others_before : (begin : ℕ) (before own all : List Stmt) → all ≡ before ++ own → begin ≡ length before → take begin all ≡ before
+others_before begin before own all e f = rw (e, f) (take-append_seam before own)

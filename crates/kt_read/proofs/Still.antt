@@ -8,7 +8,7 @@ use Rattle.kt_read.specs.declared.tokens.Tok.{Tok}
 use Rattle.kt_read.specs.Ahead.{Ahead, Moved, still, moved, next_of, rest_of}
 use Rattle.kt_read.specs.Follows.{Follows, any}
 use Rattle.kt_read.specs.Gauge.{is_over}
-use Rattle.kt_read.specs.Reading.{Reads, Refuses, Deep, Answers}
+use Rattle.kt_read.specs.Reading.{Reads, Refuses, Deep, Answers, Adds}
 use Rattle.kt_read.specs.Residuals.{Then, Done}
 
 -- an N began at old, and at cur this is left of it
@@ -187,6 +187,12 @@ pub answers : {A : Type 0} {N X : A → List Tok → List Tok → Type 0} {may :
     Still N may old cur X → Answers X mayX cur new r → ((us : List Tok) → Follows may us → Follows mayX us) → Answers N may old new r
 answers mayX new (Ok a) s r f = done (next (as_then s) r (λ x b vs us d h. subst (λ ts. Follows mayX ts) d.1 (f us h)))
 answers mayX new (Err why) s r f = fails mayX new why (as_then s) r (λ x b vs us d h. subst (λ ts. Follows mayX ts) d.1 (f us h)) (λ x. (x, [], λ rest. (refl, refl)))
+
+-- the same where the value is added to a list
+pub adds : {A B : Type 0} {N X : A → List Tok → List Tok → Type 0} {may : Symbol → Bool} {old cur : Ahead} (mayX : Symbol → Bool) (new : Ahead) (before after : List A) (r : Result B Unread) →
+    Still N may old cur X → Adds X mayX cur new before after r → ((us : List Tok) → Follows may us → Follows mayX us) → Adds N may old new before after r
+adds mayX new before after (Ok b) s r f = (r.0, r.1, answers mayX new (Ok r.0) s r.2 f)
+adds mayX new before after (Err why) s r f = answers mayX new (Err why) s r f
 
 -- the value was made, or there was no memory
 pub made : {A : Type 0} {N : A → List Tok → List Tok → Type 0} {may : Symbol → Bool} {old new : Ahead} {x : A} (r : Result A Unread) →

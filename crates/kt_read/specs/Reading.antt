@@ -1,5 +1,5 @@
 -- What a reader of one part of the grammar promises. The part is a relation `X value tokens rest`.
-use Rattle.std.specs.Prelude.{◌≡◌, ℕ, Bool, true, List, ◌∷◌, ◌++◌, Result, Ok, Err}
+use Rattle.std.specs.Prelude.{◌≡◌, ℕ, Bool, true, List, [], ◌∷◌, ◌++◌, Result, Ok, Err}
 use Rattle.kt_law.specs.declared.places.Place.{Place}
 use Rattle.kt_read.specs.declared.source.Unread.{Unread}
 use Rattle.kt_read.specs.declared.source.Unread.TheVariants as U
@@ -44,6 +44,11 @@ Answers X may old new (Ok a) = Reads X may old new a
 Answers X may old new (Err U.Refused) = Refuses X may old new
 Answers X may old new (Err U.TooDeep) = Deep X old new
 Answers X may old new (Err U.NoMemory) = Unit {0}
+
+-- The same of a reader that adds what it reads to a list. Where it failed, nothing is said of the list.
+abbrev pub Adds : {A B : Type 0} → (A → List Tok → List Tok → Type 0) → (Symbol → Bool) → Ahead → Ahead → List A → List A → Result B Unread → Type 0
+Adds {A} X may old new before after (Ok _) = (a : A) × (after ≡ before ++ a ∷ []) × Reads X may old new a
+Adds X may old new before after (Err why) = Answers X may old new (Err why)
 
 -- one sign or reserved word
 pub data Sign : Mark → Place → List Tok → List Tok → Type 0 where

@@ -4,9 +4,10 @@ ghost use Rattle.kt_read.specs.Answers.{Opened};
 ghost use Rattle.kt_read.specs.Unopened.{IsUnopened};
 
 use crate::reader::{ReadRefusal, read_program};
+use kt_check::{CheckRefusal, check_indexed};
 use kt_print::Line;
 use kt_prog::laws::few_objects;
-use kt_prog::{Program, check, inputs};
+use kt_prog::{Program, inputs};
 use kt_text::{DataError, read_data};
 use std::alloc::Global;
 
@@ -32,9 +33,12 @@ pub fn open_job(alloc: Global, job: &[u8]) -> Result<(Program, Vec<u64>), Unopen
         }
         Err(ReadRefusal::NoMemory) => return Err(Unopened::NoMemory),
     };
-    match check(&program) {
+    match check_indexed(alloc, &program) {
         Ok(()) => {}
-        Err(refusal) => return Err(Unopened::Line(Line::Refused(refusal))),
+        Err(CheckRefusal::Refused(refusal)) => {
+            return Err(Unopened::Line(Line::Refused(refusal)));
+        }
+        Err(CheckRefusal::NoMemory) => return Err(Unopened::NoMemory),
     }
     match read_data(alloc, job, from, inputs(&program)) {
         Ok(input) => Ok((program, input)),

@@ -1,9 +1,8 @@
 -- A token lies within its text and on one line.
-use Rattle.std.proofs.Common.{◌≡◌, ◌≢◌, ℕ, suc, ◌+◌, ◌-◌, ◌<◌, ◌≤◌, ◌^◌, Bool, true, false, cond, List, [], ◌∷◌, ◌++◌, length, take, drop, get_or, refl, ap, sym, subst, ◌∙◌, arith, append_assoc, Result, Ok, Err, IfOk, slice_index, nat_lt, nat_le}
+use Rattle.std.proofs.Common.{◌≡◌, ◌≢◌, ℕ, ◌+◌, ◌-◌, ◌<◌, ◌≤◌, ◌^◌, Bool, true, false, List, [], ◌∷◌, length, take, drop, get_or, refl, sym, subst, arith, Result, Ok, Err, IfOk, slice_index, nat_lt, nat_le}
 use Rattle.std.specs.Char.{is_ascii_digit}
 use Rattle.std.specs.List.{prefix_len}
-use Rattle.std.proofs.Math.Seq.{take-add}
-use Rattle.std.proofs.lemmas.List.{append-nil, length-drop, take_all}
+use Rattle.std.proofs.lemmas.List.{length-drop, take_all}
 use Rattle.std.proofs.lemmas.List.Sums.{prefix_len-le-length}
 use Rattle.std.proofs.lemmas.Bool.Decides.{nat_tests}
 use Rattle.kt_law.specs.declared.limits.TheConstants.{WORD_BYTES}
@@ -13,53 +12,20 @@ use Rattle.kt_law.specs.declared.places.P.TheVariants.{P2, P3}
 use Rattle.kt_text.specs.declared.tokens.TokenKind.{TokenKind}
 use Rattle.kt_text.specs.declared.tokens.TokenKind.TheVariants as T
 use Rattle.kt_text.specs.Bytes.{is_letter, is_line_feed, is_pair, is_single, is_word_byte, value_of}
-use Rattle.kt_text.specs.Places.{place_after, place_behind, place_of}
-use Rattle.kt_text.specs.Gaps.{start_of}
+use Rattle.kt_text.specs.Places.{place_of}
+use Rattle.kt_text.specs.Gaps.{IsOneLine, start_of}
 use Rattle.kt_text.specs.Lexemes.{lexeme_of, number_of, sign_of, word_of}
 use Rattle.kt_text.specs.Tokens.{next_token, token_at}
 use Rattle.kt_text.specs.Laws.{IsBehind}
 use Rattle.kt_text.specs.declared.tokens.Token.{Token}
 use Rattle.kt_text.proofs.GapSteps.{start_of-within}
 use Rattle.kt_text.proofs.Cases.{cases}
-use Rattle.kt_text.proofs.PlaceSteps.{place_after-more}
-
--- the first n bytes stand on one line
-abbrev pub Flat : ℕ → List ℕ → Type 0
-Flat n text = (before : List ℕ) → place_after (before ++ take n text) ≡ record { line = (place_after before).line; column = (place_after before).column + n }
-
-same_place : (p : Place) → p ≡ record { line = p.line; column = p.column + 0 }
-same_place p = let e : p.column + 0 ≡ p.column = omega arith in rw e refl
-
-flat_none : (text : List ℕ) → Flat 0 text
-flat_none text before = rw append-nil (same_place (place_after before))
-
-behind_other : (p : Place) (b : ℕ) → is_line_feed b ≡ false → place_behind p b ≡ record { line = p.line; column = p.column + 1 }
-behind_other p b e = rw e refl
-
-moved_on : (p q : Place) (n : ℕ) → q ≡ record { line = p.line; column = p.column + 1 } → record { line = q.line; column = q.column + n } ≡ (let r : Place = record { line = p.line; column = p.column + suc n } in r)
-moved_on p q n e = let s : p.column + suc n ≡ p.column + 1 + n = omega arith in rw (e, s) refl
-
-flat_more : (b : ℕ) (bs : List ℕ) (n : ℕ) → is_line_feed b ≡ false → Flat n bs → Flat (n + 1) (b ∷ bs)
-flat_more b bs n e f before =
-    let s : n + 1 ≡ suc n = omega arith in
-    rw s (ap place_after (sym (append_assoc before (b ∷ []) (take n bs))) ∙ f (before ++ b ∷ [])
-    ∙ moved_on (place_after before) (place_after (before ++ b ∷ [])) n (place_after-more b before ∙ behind_other (place_after before) b e))
-
-no_line_feed : (q : ℕ → Bool) (b : ℕ) → q b ≡ true → q 10 ≡ false → is_line_feed b ≡ false
-no_line_feed q b h e = grind (arith, nat_tests)
-
-flat_step : (q : ℕ → Bool) (b : ℕ) (bs : List ℕ) (k : ℕ) (v : Bool) → q b ≡ v → q 10 ≡ false → Flat k bs → Flat (cond v (1 + k) 0) (b ∷ bs)
-flat_step q b bs k true h e f = let s : 1 + k ≡ k + 1 = omega arith in rw s (flat_more b bs k (no_line_feed q b h e) f)
-flat_step q b bs k false h e f = flat_none (b ∷ bs)
-
-flat_prefix : (q : ℕ → Bool) → q 10 ≡ false → (text : List ℕ) → Flat (prefix_len q text) text
-flat_prefix q e [] = flat_none []
-flat_prefix q e (b ∷ bs) = flat_step q b bs (prefix_len q bs) (q b) refl e (flat_prefix q e bs)
+use Rattle.kt_text.proofs.Lines.{no_line_feed, one_line-more, one_line-prefix, place_of-line}
 
 -- a token of this kind and length may stand at the front of the text
 pub record Fits (text : List ℕ) (kind : TokenKind) (n : ℕ) : Type 0 where
   pub within : n ≤ length text
-  pub flat : Flat n text
+  pub line : IsOneLine (take n text)
   pub filled : kind ≢ T.End → 0 < n
   pub last : kind ≡ T.End → length text ≡ 0
 
@@ -72,7 +38,7 @@ refused text code = record { fits = tt }
 prefix_fits : (q : ℕ → Bool) (b : ℕ) (bs : List ℕ) (kind : TokenKind) → q 10 ≡ false → q b ≡ true → kind ≢ T.End → Fits (b ∷ bs) kind (prefix_len q (b ∷ bs))
 prefix_fits q b bs kind e h other = record {
   within = prefix_len-le-length q (b ∷ bs);
-  flat = flat_prefix q e (b ∷ bs);
+  line = one_line-prefix q e (b ∷ bs);
   filled = λ _. rw h (omega arith);
   last = λ is. absurd (other is);
 }
@@ -112,7 +78,7 @@ pair_fits : (a : ℕ) (bs : List ℕ) → is_pair a (get_or bs 0 0) ≡ true →
 pair_fits a [] h = absurd (pair_two a h)
 pair_fits a (b ∷ bs) h = record {
   within = omega arith;
-  flat = flat_more a (b ∷ bs) 1 (pair_first a b h) (flat_more b bs 0 (pair_second a b h) (flat_none bs));
+  line = one_line-more a (b ∷ []) (pair_first a b h) (one_line-more b [] (pair_second a b h) refl);
   filled = λ _. omega arith;
   last = λ is. absurd (sign_other is);
 }
@@ -120,7 +86,7 @@ pair_fits a (b ∷ bs) h = record {
 single_fits : (a : ℕ) (bs : List ℕ) → is_single a ≡ true → Fits (a ∷ bs) T.Sign 1
 single_fits a bs h = record {
   within = omega arith;
-  flat = flat_more a bs 0 (no_line_feed is_single a h refl) (flat_none bs);
+  line = one_line-more a [] (no_line_feed is_single a h refl) refl;
   filled = λ _. omega arith;
   last = λ is. absurd (sign_other is);
 }
@@ -131,7 +97,7 @@ sign_fits a bs = cases (FitsIn (a ∷ bs)) _ (λ h. record { fits = pair_fits a 
     (λ _. cases (FitsIn (a ∷ bs)) _ (λ _. refused (a ∷ bs) _) (λ _. refused (a ∷ bs) _)))
 
 lexeme_of-fits : (text : List ℕ) → FitsIn text (lexeme_of text)
-lexeme_of-fits [] = record { fits = record { within = omega arith; flat = flat_none []; filled = λ other. absurd (other refl); last = λ _. refl } }
+lexeme_of-fits [] = record { fits = record { within = omega arith; line = refl; filled = λ other. absurd (other refl); last = λ _. refl } }
 lexeme_of-fits (b ∷ bs) = cases (FitsIn (b ∷ bs)) (is_letter b) (λ h. word_fits b bs h)
     (λ _. cases (FitsIn (b ∷ bs)) (is_ascii_digit b) (λ h. number_fits b bs h) (λ _. sign_fits b bs))
 
@@ -170,11 +136,8 @@ found text start kind n h e =
     let whole : take (length text - start) (drop start text) ≡ drop start text = take_all (length text - start) (drop start text) (omega (arith, length-drop start text)) in
     let is : lexeme_of (drop start text) ≡ Ok (kind, n) = rw whole at e in
     let f : FitsIn (drop start text) (Ok (kind, n)) = subst (λ r. FitsIn (drop start text) r) is (lexeme_of-fits (drop start text)) in
-    record {
-      fits = f.fits;
-      within = omega (arith, f.fits.within, length-drop start text);
-      place = ap place_after (take-add start n text) ∙ f.fits.flat (take start text);
-    }
+    let within : start + n ≤ length text = omega (arith, f.fits.within, length-drop start text) in
+    record { fits = f.fits; within = within; place = place_of-line text start n within f.fits.line }
 
 pub found_is_behind : (text : List ℕ) (at start : ℕ) (kind : TokenKind) (n : ℕ) (place : Place) →
     start ≡ start_of text at → place ≡ place_of text start → start ≤ length text → Found text start kind n →

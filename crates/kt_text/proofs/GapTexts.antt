@@ -5,6 +5,7 @@ use Rattle.std.proofs.lemmas.List.{drop-drop}
 use Rattle.std.specs.Str.{byte}
 use Rattle.kt_text.specs.Bytes.{is_blank, is_line_feed}
 use Rattle.kt_text.specs.Gaps.{IsOneLine, Skips, blank, comment, gap, last_comment, nothing, start_of}
+use Rattle.kt_text.proofs.Lines.{one_line-more}
 
 -- the text is the rest of a comment, blanks and comments, and then `rest`
 data EndsComment : List ℕ → List ℕ → Type 0 where
@@ -14,9 +15,6 @@ data EndsComment : List ℕ → List ℕ → Type 0 where
 opened : (text rest : List ℕ) → EndsComment text rest → Skips (byte "#" ∷ text) rest
 opened _ _ (ends body text rest line more) = comment body text rest line more
 opened _ _ (goes_on body line) = last_comment body line
-
-one_line-more : (b : ℕ) (body : List ℕ) → is_line_feed b ≡ false → IsOneLine body → IsOneLine (b ∷ body)
-one_line-more b body other line = rw other line
 
 ends_more : (b : ℕ) → is_line_feed b ≡ false → (text rest : List ℕ) → EndsComment text rest → EndsComment (b ∷ text) rest
 ends_more b other _ _ (ends body text rest line more) = ends (b ∷ body) text rest (one_line-more b body other line) more

@@ -5,5 +5,6 @@ pub mod GapSteps
 pub mod GapTexts
 pub mod ItemLists
 pub mod ItemSteps
+pub mod Lines
 pub mod PlaceSteps
 pub mod TokenLists

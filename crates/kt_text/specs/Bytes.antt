@@ -14,6 +14,14 @@ is_line_feed b = b == 10
 abbrev pub is_blank : ℕ → Bool
 is_blank b = is_among (codes " \t\n\r") b
 
+-- a blank that does not end a line
+abbrev pub is_space : ℕ → Bool
+is_space b = is_blank b && not (is_line_feed b)
+
+-- what a line is made of
+abbrev pub is_line_byte : ℕ → Bool
+is_line_byte b = not (is_line_feed b)
+
 -- what the items of the data are made of
 abbrev pub is_item_byte : ℕ → Bool
 is_item_byte b = not (is_blank b)

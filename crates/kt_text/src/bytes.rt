@@ -2,13 +2,20 @@
 ghost use Rattle.std.specs.Prelude.{◌≡◌, ◌≤◌, ◌^◌, length, MatchOption};
 ghost use Rattle.std.specs.Char.{is_ascii_digit};
 ghost use Rattle.std.specs.List.{list_all, prefix_len};
-ghost use Rattle.kt_text.specs.Bytes.{is_blank, is_item_byte, is_letter, is_pair, is_single, is_word_byte, value_of};
+ghost use Rattle.kt_text.specs.Bytes.{is_blank, is_item_byte, is_letter, is_line_byte, is_pair, is_single, is_space, is_word_byte, value_of};
 
 /// Space, tab, line feed or carriage return.
 pub(crate) fn is_blank(byte: u8) -> bool
     ensures { result ≡ is_blank byte }
 {
     b" \t\n\r".contains(&byte)
+}
+
+/// A blank that is no line feed.
+pub(crate) fn is_space(byte: u8) -> bool
+    ensures { result ≡ is_space byte }
+{
+    byte == b' ' || byte == b'\t' || byte == b'\r'
 }
 
 /// A letter or `_`.
@@ -59,6 +66,14 @@ pub(crate) fn blanks_length(text: &[u8]) -> usize
     ensures within { result ≤ length text.now }
 {
     text.iter().take_while(|byte| is_blank(**byte)).count()
+}
+
+/// How many bytes stand before the first line feed, or in all.
+pub(crate) fn line_length(text: &[u8]) -> usize
+    ensures value { result ≡ prefix_len is_line_byte text.now }
+    ensures within { result ≤ length text.now }
+{
+    text.iter().take_while(|byte| **byte != b'\n').count()
 }
 
 /// How many bytes other than blanks stand at the front.

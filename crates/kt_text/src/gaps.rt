@@ -1,9 +1,10 @@
 // Blanks and comments between tokens, and places.
 ghost use Rattle.std.specs.Prelude.{◌≡◌, ◌+◌, ◌<◌, ◌≤◌, length};
-ghost use Rattle.kt_text.specs.Gaps.{goes_on, is_gap, start_of};
+ghost use Rattle.kt_text.specs.Gaps.{start_of};
 ghost use Rattle.kt_text.specs.Places.{place_behind, place_of};
 
-use crate::bytes::is_blank;
+use crate::bytes::{is_space, line_length};
+use crate::lexemes::byte_at;
 use kt_law::Place;
 
 /// Where the next token begins, and its place.
@@ -16,35 +17,36 @@ pub(crate) fn skip_gap(text: &[u8], from: usize, from_place: Place) -> (usize, P
     ensures within { result.0 ≤ length text.now }
 {
     let mut at = from;
+    // The place of `since`, from which the line goes on to `at`.
     let mut place = from_place;
-    let mut in_comment = false;
-    while at < text.len() {
-        let byte = text[at];
-        if !is_gap(in_comment, byte) {
-            break;
+    let mut since = from;
+    'gap: loop {
+        let byte = byte_at(text, at);
+        if is_space(byte) {
+            at += 1;
+        } else if byte == b'#' {
+            at += line_length(&text[at..]);
+        } else if byte == b'\n' {
+            at += 1;
+            since = at;
+            place = Place {
+                line: place.line + 1,
+                column: 1,
+            };
+        } else {
+            return (at, moved(place, at - since));
         }
-        in_comment = goes_on(in_comment, byte);
-        place = place_behind(place, byte);
-        at += 1;
     }
-    (at, place)
 }
 
-/// Whether a byte stands between tokens. In a comment every byte does.
-fn is_gap(in_comment: bool, byte: u8) -> bool
-    ensures { result ≡ is_gap in_comment byte }
+/// The place so many bytes further on in the line.
+fn moved(place: Place, length: usize) -> Place
+    requires { place.column + length ≤ u32.MAX }
+    ensures { result ≡ record place { column = place.column + length } }
 {
-    in_comment || is_blank(byte) || byte == b'#'
-}
-
-/// Whether a comment goes on behind such a byte.
-fn goes_on(in_comment: bool, byte: u8) -> bool
-    ensures { result ≡ goes_on in_comment byte }
-{
-    if in_comment {
-        byte != b'\n'
-    } else {
-        byte == b'#'
+    Place {
+        line: place.line,
+        column: place.column + length as u32,
     }
 }
 

@@ -60,7 +60,7 @@ fn sign(first: u8, second: u8) -> Result<(TokenKind, usize), P>
 }
 
 /// The byte there, or 0 at the end. A 0 belongs to no token.
-fn byte_at(text: &[u8], at: usize) -> u8
+pub(crate) fn byte_at(text: &[u8], at: usize) -> u8
     ensures { result ≡ slice_index text.now at }
 {
     text.get(at).copied().unwrap_or(0)

@@ -31,7 +31,7 @@ fn argument(alloc: Global, source: &mut Source<'_>) -> Result<Arg, Unread>
             let value = expression(alloc, source)?;
             Ok(Arg {
                 place,
-                what: ArgWhat::Value(value.into_inner()),
+                what: ArgWhat::Value(value),
             })
         }
     }
@@ -54,7 +54,7 @@ fn argument_behind_name(
     let value = expression_behind(alloc, source, first)?;
     Ok(Arg {
         place,
-        what: ArgWhat::Value(value.into_inner()),
+        what: ArgWhat::Value(value),
     })
 }
 
@@ -73,7 +73,7 @@ fn argument_in_square(
         let end = expression_then(alloc, source, Mark::SquareClose)?;
         return Ok(Arg {
             place,
-            what: ArgWhat::Span(name, place, at.into_inner(), end.into_inner()),
+            what: ArgWhat::Span(name, place, at, end),
         });
     }
     source.expect(Mark::SquareClose)?;
@@ -81,7 +81,7 @@ fn argument_in_square(
     let value = expression_behind(alloc, source, first)?;
     Ok(Arg {
         place,
-        what: ArgWhat::Value(value.into_inner()),
+        what: ArgWhat::Value(value),
     })
 }
 

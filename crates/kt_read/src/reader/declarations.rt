@@ -11,7 +11,7 @@ use crate::reader::statements::block;
 use crate::source::{Source, Unread};
 use crate::tokens::Mark;
 use kt_law::Place;
-use kt_prog::{Family, Index, Main, Name, Task};
+use kt_prog::{Family, Index, Main, Name, Stmt, Task};
 use std::alloc::Global;
 
 /// A declaration. A loop is a task with an index.
@@ -23,19 +23,23 @@ pub enum Declared {
 }
 
 /// `object | task | loop | main`
-pub(crate) fn declaration(alloc: Global, source: &mut Source<'_>) -> Result<Declared, Unread>
+pub(crate) fn declaration(
+    alloc: Global,
+    source: &mut Source<'_>,
+    stmts: &mut Vec<Stmt>,
+) -> Result<Declared, Unread>
     ensures { Answers ReadsDeclaration any source.old source.new result }
 {
     if source.is(Mark::Object) {
         return Ok(Declared::Family(family(source)?));
     }
     if source.is(Mark::Task) {
-        return Ok(Declared::Task(task(alloc, source)?));
+        return Ok(Declared::Task(task(alloc, source, stmts)?));
     }
     if source.is(Mark::Loop) {
-        return Ok(Declared::Task(loop_task(alloc, source)?));
+        return Ok(Declared::Task(loop_task(alloc, source, stmts)?));
     }
-    Ok(Declared::Main(main(alloc, source)?))
+    Ok(Declared::Main(main(alloc, source, stmts)?))
 }
 
 /// `"object" NAME [ "[" NUMBER "]" ] "of" NUMBER [ "input" ] [ "output" ] ";"`
@@ -86,17 +90,17 @@ fn optional(source: &mut Source<'_>, word: &[u8]) -> Result<bool, Unread>
 }
 
 /// `"task" NAME "(" [ params ] ")" block`
-fn task(alloc: Global, source: &mut Source<'_>) -> Result<Task, Unread>
+fn task(alloc: Global, source: &mut Source<'_>, stmts: &mut Vec<Stmt>) -> Result<Task, Unread>
     ensures { Answers TaskOf any source.old source.new result }
 {
     source.expect(Mark::Task)?;
     let (name, place) = source.name()?;
     source.expect(Mark::ParenOpen)?;
-    rest_of_task(alloc, source, name, place, None)
+    rest_of_task(alloc, source, stmts, name, place, None)
 }
 
 /// `"loop" NAME "(" NAME ";" [ params ] ")" block`
-fn loop_task(alloc: Global, source: &mut Source<'_>) -> Result<Task, Unread>
+fn loop_task(alloc: Global, source: &mut Source<'_>, stmts: &mut Vec<Stmt>) -> Result<Task, Unread>
     ensures { Answers LoopOf any source.old source.new result }
 {
     source.expect(Mark::Loop)?;
@@ -108,13 +112,14 @@ fn loop_task(alloc: Global, source: &mut Source<'_>) -> Result<Task, Unread>
         name: index,
         place: index_place,
     };
-    rest_of_task(alloc, source, name, place, Some(index))
+    rest_of_task(alloc, source, stmts, name, place, Some(index))
 }
 
 /// `[ params ] ")" block`
 fn rest_of_task(
     alloc: Global,
     source: &mut Source<'_>,
+    stmts: &mut Vec<Stmt>,
     name: Name,
     place: Place,
     index: Option<Index>,
@@ -123,7 +128,7 @@ fn rest_of_task(
 {
     let params = params(alloc, source)?;
     source.expect(Mark::ParenClose)?;
-    let body = block(alloc, source)?;
+    let body = block(alloc, source, stmts)?;
     Ok(Task {
         name,
         place,
@@ -134,10 +139,10 @@ fn rest_of_task(
 }
 
 /// `"main" block`
-fn main(alloc: Global, source: &mut Source<'_>) -> Result<Main, Unread>
+fn main(alloc: Global, source: &mut Source<'_>, stmts: &mut Vec<Stmt>) -> Result<Main, Unread>
     ensures { Answers ReadsMain any source.old source.new result }
 {
     let place = source.expect(Mark::Main)?;
-    let body = block(alloc, source)?;
+    let body = block(alloc, source, stmts)?;
     Ok(Main { place, body })
 }

@@ -1,6 +1,6 @@
 // Expressions by descent, a function for each level.
 ghost use Rattle.std.specs.Prelude.{◌≡◌, MatchResult, true};
-ghost use Rattle.kt_prog.specs.declared.programs.Expr.{Bin, Elem, Var};
+ghost use Rattle.kt_prog.specs.declared.programs.Expr.{Bin, Elem};
 ghost use Rattle.kt_read.specs.declared.source.Unread.TheVariants.{NoMemory};
 ghost use Rattle.kt_read.specs.declared.tokens.Symbol.TheVariants as S;
 ghost use Rattle.kt_read.specs.Ahead.{next_of};
@@ -56,6 +56,30 @@ fn multiplicative(source: &Source<'_>) -> Option<BinOp>
     }
 }
 
+/// Whether what is next carries no expression on.
+fn ends_expression(source: &Source<'_>) -> bool
+    ensures { result ≡ after_expression (next_of source.now).symbol }
+{
+    !matches!(
+        source.mark(),
+        Some(
+            Mark::SquareOpen
+                | Mark::ParenOpen
+                | Mark::Star
+                | Mark::Slash
+                | Mark::Percent
+                | Mark::Plus
+                | Mark::Minus
+                | Mark::Eq
+                | Mark::Ne
+                | Mark::Lt
+                | Mark::Le
+                | Mark::Gt
+                | Mark::Ge
+        )
+    )
+}
+
 /// The function of this name.
 #[tactic(auto, unfolding(crate::specs::Operators::function_of))]
 fn function(name: &Name) -> Option<BinOp>
@@ -79,12 +103,6 @@ fn function(name: &Name) -> Option<BinOp>
     }
 }
 
-fn variable(alloc: Global, name: Name, place: Place) -> Result<Boxed<Expr>, Unread>
-    ensures { MatchResult result (λ e. e ≡ Var name place) (λ why. why ≡ NoMemory) }
-{
-    boxed(alloc, Expr::Var(name, place))
-}
-
 fn binary(
     alloc: Global,
     op: BinOp,
@@ -96,25 +114,48 @@ fn binary(
     boxed(alloc, Expr::Bin(op, left, right))
 }
 
+/// A function of two arguments.
+fn call(alloc: Global, op: BinOp, left: Expr, right: Expr) -> Result<Expr, Unread>
+    ensures { MatchResult result (λ e. e ≡ Bin op left right) (λ why. why ≡ NoMemory) }
+{
+    let left = boxed(alloc, left)?;
+    let right = boxed(alloc, right)?;
+    Ok(Expr::Bin(op, left, right))
+}
+
 /// The element of an object at this index.
-pub(crate) fn element(
-    alloc: Global,
-    name: Name,
-    place: Place,
-    at: Boxed<Expr>,
-) -> Result<Boxed<Expr>, Unread>
+pub(crate) fn element(alloc: Global, name: Name, place: Place, at: Expr) -> Result<Expr, Unread>
     ensures { MatchResult result (λ e. e ≡ Elem name place at) (λ why. why ≡ NoMemory) }
 {
-    boxed(alloc, Expr::Elem(name, place, at))
+    let at = boxed(alloc, at)?;
+    Ok(Expr::Elem(name, place, at))
 }
 
 /// `sum [ comparison sum ]`
 #[cycle(expression)]
-pub(crate) fn expression(alloc: Global, source: &mut Source<'_>) -> Result<Boxed<Expr>, Unread>
+pub(crate) fn expression(alloc: Global, source: &mut Source<'_>) -> Result<Expr, Unread>
     ensures { Answers ReadsExpr after_expression source.old source.new result }
 {
-    let first = sum(alloc, source)?;
-    compared(alloc, source, first)
+    let first = atom(alloc, source)?;
+    expression_behind(alloc, source, first)
+}
+
+/// What is left of an expression behind its first atom. Most expressions are one atom, so one test tells of those first.
+#[cycle(expression)]
+pub(crate) fn expression_behind(
+    alloc: Global,
+    source: &mut Source<'_>,
+    first: Expr,
+) -> Result<Expr, Unread>
+    ensures { Answers (AfterAtom first) after_expression source.old source.new result }
+{
+    if ends_expression(source) {
+        return Ok(first);
+    }
+    let operand = boxed(alloc, first)?;
+    let product = factors(alloc, source, operand)?;
+    let sum = terms(alloc, source, product)?;
+    compared(alloc, source, sum)
 }
 
 /// An expression and a sign behind it.
@@ -123,7 +164,7 @@ pub(crate) fn expression_then(
     alloc: Global,
     source: &mut Source<'_>,
     mark: Mark,
-) -> Result<Boxed<Expr>, Unread>
+) -> Result<Expr, Unread>
     requires { after_expression (S.Mark mark) ≡ true }
     ensures { Answers (ExprThen mark) any source.old source.new result }
 {
@@ -134,19 +175,15 @@ pub(crate) fn expression_then(
 
 /// What is left of an expression behind its first sum.
 #[cycle(expression)]
-fn compared(
-    alloc: Global,
-    source: &mut Source<'_>,
-    left: Boxed<Expr>,
-) -> Result<Boxed<Expr>, Unread>
+fn compared(alloc: Global, source: &mut Source<'_>, left: Boxed<Expr>) -> Result<Expr, Unread>
     ensures { Answers (AfterSum left) after_expression source.old source.new result }
 {
     let Some(op) = comparison(source) else {
-        return Ok(left);
+        return Ok(left.into_inner());
     };
     source.advance()?;
     let right = sum(alloc, source)?;
-    binary(alloc, op, left, right)
+    Ok(Expr::Bin(op, left, right))
 }
 
 /// `product { additive product }`
@@ -177,7 +214,7 @@ fn terms(alloc: Global, source: &mut Source<'_>, first: Boxed<Expr>) -> Result<B
 fn product(alloc: Global, source: &mut Source<'_>) -> Result<Boxed<Expr>, Unread>
     ensures { Answers ReadsProduct after_product source.old source.new result }
 {
-    let first = atom(alloc, source)?;
+    let first = operand(alloc, source)?;
     factors(alloc, source, first)
 }
 
@@ -193,20 +230,29 @@ fn factors(
     let mut left = first;
     'factors: while let Some(op) = multiplicative(source) {
         source.advance()?;
-        let right = atom(alloc, source)?;
+        let right = operand(alloc, source)?;
         left = binary(alloc, op, left, right)?;
     }
     Ok(left)
 }
 
+/// An atom that is part of a larger expression.
 #[cycle(expression)]
-fn atom(alloc: Global, source: &mut Source<'_>) -> Result<Boxed<Expr>, Unread>
+fn operand(alloc: Global, source: &mut Source<'_>) -> Result<Boxed<Expr>, Unread>
+    ensures { Answers ReadsAtom after_atom source.old source.new result }
+{
+    let read = atom(alloc, source)?;
+    boxed(alloc, read)
+}
+
+#[cycle(expression)]
+fn atom(alloc: Global, source: &mut Source<'_>) -> Result<Expr, Unread>
     ensures { Answers ReadsAtom after_atom source.old source.new result }
 {
     match &source.next().symbol {
         Symbol::Number(_) => {
             let number = source.number()?;
-            boxed(alloc, Expr::Num(number))
+            Ok(Expr::Num(number))
         }
         Symbol::Name(_) => {
             let (name, place) = source.name()?;
@@ -226,7 +272,7 @@ pub(crate) fn after_name(
     source: &mut Source<'_>,
     name: Name,
     place: Place,
-) -> Result<Boxed<Expr>, Unread>
+) -> Result<Expr, Unread>
     ensures { Answers (AfterName name place) after_atom source.old source.new result }
 {
     if source.is(Mark::SquareOpen) {
@@ -235,26 +281,13 @@ pub(crate) fn after_name(
         return element(alloc, name, place, at);
     }
     let Some(op) = function(&name) else {
-        return variable(alloc, name, place);
+        return Ok(Expr::Var(name, place));
     };
     if !source.is(Mark::ParenOpen) {
-        return variable(alloc, name, place);
+        return Ok(Expr::Var(name, place));
     }
     source.expect(Mark::ParenOpen)?;
     let left = expression_then(alloc, source, Mark::Comma)?;
     let right = expression_then(alloc, source, Mark::ParenClose)?;
-    binary(alloc, op, left, right)
-}
-
-/// What is left of an expression behind its first atom.
-pub(crate) fn expression_behind(
-    alloc: Global,
-    source: &mut Source<'_>,
-    first: Boxed<Expr>,
-) -> Result<Boxed<Expr>, Unread>
-    ensures { Answers (AfterAtom first) after_expression source.old source.new result }
-{
-    let product = factors(alloc, source, first)?;
-    let sum = terms(alloc, source, product)?;
-    compared(alloc, source, sum)
+    call(alloc, op, left, right)
 }

@@ -1,10 +1,11 @@
 // What is read is put on the heap. Want of memory ends the reading.
-ghost use Rattle.std.specs.Prelude.{◌≡◌, [], ◌∷◌, ◌++◌, MatchResult, OnOk};
+ghost use Rattle.std.specs.Prelude.{◌≡◌, ◌≤◌, [], ◌∷◌, ◌++◌, drop, IfOk, length, MatchResult, OnOk, take};
 ghost use Rattle.kt_read.specs.declared.source.Unread.TheVariants.{NoMemory};
 
 use crate::source::Unread;
 use sqlite_items::Boxed;
 use std::alloc::{AllocError, AllocFailed, Global};
+use std::mem;
 
 impl From<AllocError> for Unread {
     ghost from_gives = { λ _ why. why ≡ NoMemory };
@@ -39,4 +40,24 @@ pub(crate) fn add<T: Drop>(parts: &mut Vec<T>, part: T) -> Result<(), AllocError
     }
     parts.push_reserved(part);
     Ok(())
+}
+
+/// How many parts are handed over in the list that they were read into, where they fill it. Fewer are copied.
+const LONG: usize = 1_024;
+
+/// Takes the parts from this place on out of a list. Their own list has room for just their number, but where they are
+/// many, and fill the list that they were read into.
+pub(crate) fn taken<T: Drop>(
+    alloc: Global,
+    parts: &mut Vec<T>,
+    from: usize,
+) -> Result<Vec<T>, AllocError>
+    requires { from ≤ length parts.old.items }
+    ensures taken { IfOk result (λ own. own.items ≡ drop from parts.old.items) }
+    ensures kept { OnOk result (parts.new.items ≡ take from parts.old.items) }
+{
+    if from == 0 && parts.len() >= LONG.max(parts.capacity() / 2) {
+        return Ok(mem::replace(parts, Vec::new(alloc)));
+    }
+    parts.split_off(from)
 }

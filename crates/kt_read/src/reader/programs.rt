@@ -47,8 +47,9 @@ pub(crate) fn program(alloc: Global, source: &mut Source<'_>) -> Result<Program,
     ensures { Answers ReadsProgram any source.old source.new result }
 {
     let mut gathered = Gathered::new(alloc);
+    let mut stmts = Vec::new(alloc);
     'each: while !source.is(Mark::Data) {
-        let next = declaration(alloc, source)?;
+        let next = declaration(alloc, source, &mut stmts)?;
         gathered.add(next)?;
     }
     let end = source.expect(Mark::Data)?;

@@ -1,14 +1,9 @@
-use Rattle.std.proofs.Common.{length, drop, ◌-◌, ◌≡◌, ◌+◌, ◌≤◌}
-use Rattle.kt_text.specs.Gaps.{gap, start_of}
-use Rattle.kt_text.specs.Places.{place_of}
+use Rattle.std.proofs.Common.{length, ◌-◌}
+use Rattle.kt_text.proofs.GapSteps.{IsPassed}
 use Rattle.kt_text.proofs.gaps.skip_gap.Given as goal
 
-abbrev pub invariant-loop-at : goal.invariant-loop-at
-invariant-loop-at l = record {
-  inside : l.at ≤ length l.text;
-  place : l.place ≡ place_of l.text l.at;
-  start : l.at + gap l.in_comment (drop l.at l.text) ≡ start_of l.text l.from;
-}
+abbrev pub invariant-gap : goal.invariant-gap
+invariant-gap l = IsPassed l.text l.from l.at l.since l.place
 
-abbrev pub decreases-loop-at : goal.decreases-loop-at
-decreases-loop-at l = length l.text - l.at
+abbrev pub decreases-gap : goal.decreases-gap
+decreases-gap l = length l.text - l.at

@@ -23,4 +23,4 @@ returns-in_err-value-in_default c =
 
 pub returns-in_ok-value-in_default : goal.returns-in_ok-value-in_default
 returns-in_ok-value-in_default c =
-    rw (c.next-token.ensures, c.into_inner.ensures) (arg_reads (λ n e. c.in_default.not-Name n (ap (λ u. u.symbol) c.next-token.ensures ∙ e)) c.in_ok-value-in_default.ensures)
+    rw c.next-token.ensures (arg_reads (λ n e. c.in_default.not-Name n (ap (λ u. u.symbol) c.next-token.ensures ∙ e)) c.in_ok-value-in_default.ensures)

@@ -33,4 +33,4 @@ pub returns : goal.returns
 returns c =
     let s0 = in_value_here c.args.name c.args.place _ (λ e. cc (c.is.ensures.1 e, c.if-is.false)) in
     let s1 = next s0 c.in_ok-first.ensures (λ b. in_value_follow c.args.place b) in
-    rw c.into_inner.ensures (done (next s1 c.in_ok-value.ensures (λ e. valued_follow c.args.place e)))
+    done (next s1 c.in_ok-value.ensures (λ e. valued_follow c.args.place e))

@@ -34,7 +34,7 @@ returns-then-is c =
     let s1 = next (here _) c.in_ok-at.ensures (λ i a vs us k h. index_follow c.args.name c.args.place i a vs us k) in
     let s2 = span_left c.in_ok-at.at s1 (c.is.ensures.0 c.if-is.true) in
     let s3 = next_any s2 c.in_ok-expect.ensures in
-    rw (c.into_inner.ensures, c.into_inner-then-is.ensures) (done (next_any s3 c.in_ok-end.ensures))
+    done (next_any s3 c.in_ok-end.ensures)
 
 pub returns-in_err-expect-2 : goal.returns-in_err-expect-2
 returns-in_err-expect-2 c =
@@ -58,4 +58,4 @@ returns c =
     let s2 = element_left c.in_ok-at.at s1 (λ e. cc (c.is.ensures.1 e, c.if-is.false)) in
     let s3 = next_any s2 c.in_ok-expect-2.ensures in
     let h = subst (λ x. Reads (AfterAtom x) after_expression c.expect-2.new.self c.expression_behind.new.source c.in_ok-value.value) c.in_ok-first.ensures c.in_ok-value.ensures in
-    rw c.into_inner-2.ensures (done (next s3 h (λ e. valued_follow c.args.place e)))
+    done (next s3 h (λ e. valued_follow c.args.place e))

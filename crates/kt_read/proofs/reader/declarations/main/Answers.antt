@@ -13,7 +13,7 @@ pub returns-in_err-body : goal.returns-in_err-body
 returns-in_err-body c =
     let s = next_any (main_here _) c.in_ok-place.ensures in
     let p = err_from_is_err_and c.from_residual-in_err-body.result c.from_residual-in_err-body.ensures.1 in
-    rw (p.1, p.2) (fails_any _ _ s c.in_err-body.ensures (λ body. done_completes (main_at c.in_ok-place.place body)))
+    rw (p.1, p.2) (fails_any _ _ s c.in_err-body.ensures.answers (λ body. done_completes (main_at c.in_ok-place.place body)))
 
 pub returns : goal.returns
-returns c = done (next_any (next_any (main_here _) c.in_ok-place.ensures) c.in_ok-body.ensures)
+returns c = done (next_any (next_any (main_here _) c.in_ok-place.ensures) c.in_ok-body.ensures.answers)

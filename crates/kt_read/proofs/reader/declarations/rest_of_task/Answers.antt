@@ -21,10 +21,10 @@ pub returns-in_err-body : goal.returns-in_err-body
 returns-in_err-body c =
     let s = next {N = Outset (c.args.name, c.args.place) c.args.index} (here _) c.in_ok-params.ensures (λ x a vs us k h. params_follow k.2) in
     let p = err_from_is_err_and c.from_residual-in_err-body.result c.from_residual-in_err-body.ensures.1 in
-    rw (p.1, p.2) (fails_any _ _ (next_any s c.in_ok-expect.ensures) c.in_err-body.ensures
+    rw (p.1, p.2) (fails_any _ _ (next_any s c.in_ok-expect.ensures) c.in_err-body.ensures.answers
     (λ body. done_completes (task_at (c.args.name, c.args.place) c.args.index c.in_ok-params.params body)))
 
 pub returns : goal.returns
 returns c =
     let s = next {N = Outset (c.args.name, c.args.place) c.args.index} (here _) c.in_ok-params.ensures (λ x a vs us k h. params_follow k.2) in
-    done (next_any (next_any s c.in_ok-expect.ensures) c.in_ok-body.ensures)
+    done (next_any (next_any s c.in_ok-expect.ensures) c.in_ok-body.ensures.answers)

@@ -1,10 +1,12 @@
-use Rattle.std.proofs.Common.{sym, ◌∙◌, refl, ap, arith}
+use Rattle.std.proofs.Common.{sym, ◌∙◌, refl, ap, arith, subst, Err}
 use Rattle.std.proofs.lemmas.Result.{err_from_is_err_and}
 use Rattle.kt_prog.specs.declared.programs.Expr.{Num, Elem, Bin}
 use Rattle.kt_read.specs.declared.tokens.Mark.TheVariants as T
 use Rattle.kt_read.specs.Follows.{after_atom, after_expression, after_product, after_sum, any}
+use Rattle.kt_read.specs.Expressions.{ReadsFactors}
+use Rattle.kt_read.specs.Reading.{Answers}
 use Rattle.kt_read.specs.Residuals.{Done, Closing}
-use Rattle.kt_read.proofs.ExpressionSteps.{closing_follows, closing_completes, expression_completes, expression_then_completes, terms_follow, sum_here, terms_step, terms_end, terms_go_on, terms_complete, factors_follow, product_here, factors_step, factors_end, factors_go_on, factors_complete, after_sum_follow, expression_here, comparison_step, comparison_end, comparison_goes_on, after_sum_completes, compared_follows, number_here, name_here, group_here, after_name_completes, square_here, call_here, bare_reads, in_call_completes}
+use Rattle.kt_read.proofs.ExpressionSteps.{closing_follows, closing_completes, expression_completes, expression_then_completes, terms_follow, sum_here, terms_step, terms_end, terms_go_on, terms_complete, factors_follow, product_here, factors_step, factors_end, factors_go_on, factors_complete, after_sum_follow, sums_follow, sums_complete, expression_here, atom_end, after_atom_follows, after_atom_completes, comparison_step, comparison_end, comparison_goes_on, after_sum_completes, compared_follows, number_here, name_here, group_here, after_name_completes, square_here, call_here, bare_reads, in_call_completes}
 use Rattle.kt_read.proofs.Operators.{additive_is_token, multiplicative_is_token, comparison_is_token}
 use Rattle.kt_read.proofs.Shrinking.{moved_left, advanced_falls, reads_left, sign_falls, name_falls}
 use Rattle.kt_read.proofs.Signs.{done_completes}
@@ -37,11 +39,11 @@ after_name-returns-then-is t c =
 
 pub after_name-returns-in_default : goal.after_name-returns-in_default
 after_name-returns-in_default t c =
-    made _ c.variable.ensures (bare_reads _ _ _ (λ e. cc (c.is.ensures.1 e, c.if-is.false)) (λ e. sym c.function.ensures ∙ c.in_default.is))
+    bare_reads _ _ _ (λ e. cc (c.is.ensures.1 e, c.if-is.false)) (λ e. sym c.function.ensures ∙ c.in_default.is)
 
 pub after_name-returns-then-not-is : goal.after_name-returns-then-not-is
 after_name-returns-then-not-is t c =
-    made _ c.variable-then-not-is.ensures (bare_reads _ _ _ (λ e. cc (c.is.ensures.1 e, c.if-is.false)) (λ e. cc (c.is-2.ensures.1 e, c.if-not-is.true)))
+    bare_reads _ _ _ (λ e. cc (c.is.ensures.1 e, c.if-is.false)) (λ e. cc (c.is-2.ensures.1 e, c.if-not-is.true))
 
 pub after_name-returns-in_err-expect-2 : goal.after_name-returns-in_err-expect-2
 after_name-returns-in_err-expect-2 t c =
@@ -80,7 +82,7 @@ after_name-returns t c =
     let s0 = call_here _ _ c.in-Some.op _ (sym c.function.ensures ∙ c.in-Some.is) (c.is-2.ensures.0 c.if-not-is.false) in
     let s1 = next_any s0 c.in_ok-expect-2.ensures in
     let s2 = next_any s1 c.in_ok-left.ensures in
-    made _ c.binary.ensures (done (next_any s2 c.in_ok-right.ensures))
+    made _ c.call.ensures (done (next_any s2 c.in_ok-right.ensures))
 
 pub atom-returns-in_err-number-in-Number : goal.atom-returns-in_err-number-in-Number
 atom-returns-in_err-number-in-Number t c =
@@ -91,7 +93,7 @@ atom-returns-in_err-number-in-Number t c =
 pub atom-returns-in_ok-number-in-Number : goal.atom-returns-in_ok-number-in-Number
 atom-returns-in_ok-number-in-Number t c =
     let e = ap (λ u. u.symbol) (sym c.next.ensures) ∙ c.in-Number.is in
-    made _ c.boxed.ensures (done (next_any (number_here _ _ e) c.in_ok-number-in-Number.ensures))
+    done (next_any (number_here _ _ e) c.in_ok-number-in-Number.ensures)
 
 pub atom-returns-in_err-name-in-Name : goal.atom-returns-in_err-name-in-Name
 atom-returns-in_err-name-in-Name t c =
@@ -127,7 +129,7 @@ atom-returns-in_ok-expect-in_default t c =
 
 pub compared-returns-in_default : goal.compared-returns-in_default
 compared-returns-in_default t c =
-    comparison_end _ _ (sym c.comparison.ensures ∙ c.in_default.is)
+    rw c.into_inner.ensures (comparison_end _ _ (sym c.comparison.ensures ∙ c.in_default.is))
 
 pub compared-returns-in_err-advance : goal.compared-returns-in_err-advance
 compared-returns-in_err-advance t c =
@@ -155,21 +157,55 @@ compared-returns t c =
     let o = sym c.comparison.ensures ∙ c.in-Some.is in
     let a : Advanced _ _ = record { behind = c.in_ok-advance.ensures.0; is_token = comparison_is_token _ _ o; fits = c.in_ok-advance.ensures.1 } in
     let s = comparison_step _ _ o a in
-    made _ c.binary.ensures (done (next s c.in_ok-right.ensures (λ b. compared_follows (Bin c.in-Some.op c.args.left b))))
+    done (next s c.in_ok-right.ensures (λ b. compared_follows (Bin c.in-Some.op c.args.left b)))
 
 pub expression-returns-in_err-first : goal.expression-returns-in_err-first
 expression-returns-in_err-first t c =
     let p = err_from_is_err_and c.from_residual.result c.from_residual.ensures.1 in
-    rw (p.1, p.2) (fails after_sum _ _ (expression_here _) c.in_err-first.ensures after_sum_follow after_sum_completes)
+    rw (p.1, p.2) (fails after_atom _ _ (expression_here _) c.in_err-first.ensures after_atom_follows after_atom_completes)
 
-pub expression-compared-requires : goal.expression-compared-requires
-expression-compared-requires t c =
+pub expression-expression_behind-requires : goal.expression-expression_behind-requires
+expression-expression_behind-requires t c =
     let f = reads_left c.in_ok-first.ensures in
     omega (arith, f)
 
 pub expression-returns : goal.expression-returns
 expression-returns t c =
-    answers after_expression _ _ (next (expression_here _) c.in_ok-first.ensures after_sum_follow) c.compared.ensures (λ us h. h)
+    answers after_expression _ _ (next (expression_here _) c.in_ok-first.ensures after_atom_follows) c.expression_behind.ensures (λ us h. h)
+
+pub expression_behind-returns-then-ends_expression : goal.expression_behind-returns-then-ends_expression
+expression_behind-returns-then-ends_expression t c =
+    atom_end _ _ (sym c.ends_expression.ensures ∙ c.if-ends_expression.true)
+
+pub expression_behind-returns-in_err-product : goal.expression_behind-returns-in_err-product
+expression_behind-returns-in_err-product t c =
+    let h = subst (λ x. Answers (ReadsFactors x) after_product c.args.source.now c.factors.new.source (Err c.in_err-product.field-0.0)) c.in_ok-operand.ensures c.in_err-product.ensures in
+    let p = err_from_is_err_and c.from_residual-in_err-product.result c.from_residual-in_err-product.ensures.1 in
+    rw (p.1, p.2) (fails after_product _ _ (here _) h (λ b. sums_follow b) sums_complete)
+
+pub expression_behind-terms-requires : goal.expression_behind-terms-requires
+expression_behind-terms-requires t c =
+    let f = reads_left c.in_ok-product.ensures in
+    omega (arith, f)
+
+pub expression_behind-returns-in_err-sum : goal.expression_behind-returns-in_err-sum
+expression_behind-returns-in_err-sum t c =
+    let h = rw c.in_ok-operand.ensures at c.in_ok-product.ensures in
+    let s1 = next (here _) h (λ b. sums_follow b) in
+    let p = err_from_is_err_and c.from_residual-in_err-sum.result c.from_residual-in_err-sum.ensures.1 in
+    rw (p.1, p.2) (fails after_sum _ _ s1 c.in_err-sum.ensures after_sum_follow after_sum_completes)
+
+pub expression_behind-compared-requires : goal.expression_behind-compared-requires
+expression_behind-compared-requires t c =
+    let f = reads_left c.in_ok-product.ensures in
+    let g = reads_left c.in_ok-sum.ensures in
+    omega (arith, f, g)
+
+pub expression_behind-returns : goal.expression_behind-returns
+expression_behind-returns t c =
+    let h = rw c.in_ok-operand.ensures at c.in_ok-product.ensures in
+    let s1 = next (here _) h (λ b. sums_follow b) in
+    answers after_expression _ _ (next s1 c.in_ok-sum.ensures after_sum_follow) c.compared.ensures (λ us h. h)
 
 pub expression_then-returns-in_err-inner : goal.expression_then-returns-in_err-inner
 expression_then-returns-in_err-inner t c =
@@ -195,8 +231,8 @@ factors-returns-in_err-advance t c =
     let p = err_from_is_err_and c.from_residual.result c.from_residual.ensures.1 in
     rw (p.1, p.2) (deep_at c.factors.invariant _ _ c.in_err-advance.ensures (multiplicative_is_token _ _ o) (factors_go_on _ _ _ o))
 
-pub factors-atom-requires : goal.factors-atom-requires
-factors-atom-requires t c =
+pub factors-operand-requires : goal.factors-operand-requires
+factors-operand-requires t c =
     let o = sym c.multiplicative.ensures ∙ c.in-Some.is in
     let a : Advanced _ _ = record { behind = c.in_ok-advance.ensures.0; is_token = multiplicative_is_token _ _ o; fits = c.in_ok-advance.ensures.1 } in
     let f = advanced_falls a in
@@ -302,3 +338,12 @@ sum-terms-requires t c =
 pub sum-returns : goal.sum-returns
 sum-returns t c =
     answers after_sum _ _ (next (sum_here _) c.in_ok-first.ensures terms_follow) c.terms.ensures (λ us h. h)
+
+pub operand-returns-in_err-read : goal.operand-returns-in_err-read
+operand-returns-in_err-read t c =
+    let p = err_from_is_err_and c.from_residual.result c.from_residual.ensures.1 in
+    rw (p.1, p.2) c.in_err-read.ensures
+
+pub operand-returns : goal.operand-returns
+operand-returns t c =
+    made _ c.boxed.ensures c.in_ok-read.ensures

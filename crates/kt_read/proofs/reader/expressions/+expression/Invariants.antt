@@ -21,11 +21,17 @@ decreases-after_name l = 8 * left l.source.now + 1
 abbrev pub decreases-atom : goal.decreases-atom
 decreases-atom l = 8 * left l.source.now + 1
 
+abbrev pub decreases-operand : goal.decreases-operand
+decreases-operand l = 8 * left l.source.now + 2
+
 abbrev pub decreases-product : goal.decreases-product
-decreases-product l = 8 * left l.source.now + 2
+decreases-product l = 8 * left l.source.now + 3
 
 abbrev pub decreases-sum : goal.decreases-sum
-decreases-sum l = 8 * left l.source.now + 3
+decreases-sum l = 8 * left l.source.now + 4
+
+abbrev pub decreases-expression_behind : goal.decreases-expression_behind
+decreases-expression_behind l = 8 * left l.source.now + 2
 
 abbrev pub decreases-expression : goal.decreases-expression
 decreases-expression l = 8 * left l.source.now + 4

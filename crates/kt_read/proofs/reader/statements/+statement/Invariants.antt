@@ -1,4 +1,5 @@
-use Rattle.std.proofs.Common.{◌+◌, ◌*◌, ◌<◌}
+use Rattle.std.proofs.Common.{◌≡◌, ◌+◌, ◌*◌, ◌<◌, List, ◌++◌}
+use Rattle.kt_prog.specs.declared.programs.Stmt.{Stmt}
 use Rattle.kt_read.specs.Follows.{any}
 use Rattle.kt_read.specs.StatementResiduals.{MoreStmts}
 use Rattle.kt_read.specs.Statements.{ReadsBlock}
@@ -22,8 +23,10 @@ decreases-otherwise l = 4 * left l.source.now + 1
 abbrev pub decreases-block : goal.decreases-block
 decreases-block l = 4 * left l.source.now + 1
 
+-- the statements of a block stand behind those of the blocks around it
 abbrev pub invariant-block-each : goal.invariant-block-each
-invariant-block-each l = Still ReadsBlock any l.fn.source l.source (MoreStmts l.stmts.items) × (left l.source < left l.fn.source)
+invariant-block-each l =
+    (own : List Stmt) × (l.stmts.items ≡ l.fn.stmts.items ++ own) × Still ReadsBlock any l.fn.source l.source (MoreStmts own) × (left l.source < left l.fn.source)
 
 abbrev pub decreases-block-each : goal.decreases-block-each
 decreases-block-each l = left l.source

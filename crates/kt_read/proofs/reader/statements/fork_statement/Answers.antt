@@ -5,7 +5,7 @@ use Rattle.kt_read.specs.ArgumentResiduals.{after_arguments}
 use Rattle.kt_read.proofs.StatementSteps.{fork_end_completes, fork_rest_completes, fork_completes}
 use Rattle.kt_read.proofs.ExpressionSteps.{sign_follows, closing_completes}
 use Rattle.kt_read.proofs.Signs.{done_completes}
-use Rattle.kt_read.proofs.Still.{here, next, done, fails, next_any, fails_any, made}
+use Rattle.kt_read.proofs.Still.{here, next, done, fails, next_any, fails_any}
 use Rattle.kt_read.proofs.reader.statements.fork_statement.Goals as goal
 
 pub returns-in_err-place : goal.returns-in_err-place
@@ -49,4 +49,4 @@ returns c =
     let s2 = next_any s1 c.in_ok-name.ensures in
     let s3 = next s2 c.in_ok-length.ensures (λ f a vs us k h. sign_follows after_arguments T.ParenClose refl k.0 vs k.1 k.2) in
     let s4 = next_any s3 c.in_ok-expect.ensures in
-    made _ c.boxed.ensures (done (next_any s4 c.in_ok-expect-2.ensures))
+    (_, c.in_ok-add.ensures, done (next_any s4 c.in_ok-expect-2.ensures))

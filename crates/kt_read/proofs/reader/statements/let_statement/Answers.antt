@@ -1,7 +1,7 @@
 use Rattle.std.proofs.lemmas.Result.{err_from_is_err_and}
 use Rattle.kt_read.proofs.StatementSteps.{let_value_completes, let_completes}
 use Rattle.kt_read.proofs.Signs.{done_completes}
-use Rattle.kt_read.proofs.Still.{here, done, next_any, fails_any, made}
+use Rattle.kt_read.proofs.Still.{here, done, next_any, fails_any}
 use Rattle.kt_read.proofs.reader.statements.let_statement.Goals as goal
 
 pub returns-in_err-place : goal.returns-in_err-place
@@ -26,4 +26,4 @@ pub returns : goal.returns
 returns c =
     let s1 = next_any (here _) c.in_ok-place.ensures in
     let s2 = next_any s1 c.in_ok-name.ensures in
-    made _ (rw c.into_inner.ensures at c.boxed.ensures) (done (next_any s2 c.in_ok-value.ensures))
+    (_, c.in_ok-add.ensures, done (next_any s2 c.in_ok-value.ensures))

@@ -1,7 +1,7 @@
 use Rattle.std.proofs.lemmas.Result.{err_from_is_err_and}
 use Rattle.kt_read.specs.Follows.{any}
 use Rattle.kt_read.proofs.StatementSteps.{stmt_name_completes}
-use Rattle.kt_read.proofs.Still.{here, answers, next_any, fails_any}
+use Rattle.kt_read.proofs.Still.{here, adds, next_any, fails_any}
 use Rattle.kt_read.proofs.reader.statements.named_statement.Goals as goal
 
 pub returns-in_err-name : goal.returns-in_err-name
@@ -12,4 +12,4 @@ returns-in_err-name c =
 pub returns : goal.returns
 returns c =
     let s1 = next_any (here _) c.in_ok-name.ensures in
-    answers any _ _ s1 c.statement_behind_name.ensures (λ us h. h)
+    adds any _ _ _ _ s1 c.statement_behind_name.ensures (λ us h. h)

@@ -1,7 +1,7 @@
 use Rattle.std.proofs.lemmas.Result.{err_from_is_err_and}
 use Rattle.kt_read.proofs.StatementSteps.{store_here, store_completes, fold_here, fold_value_completes, fold_completes}
 use Rattle.kt_read.proofs.Signs.{done_completes}
-use Rattle.kt_read.proofs.Still.{done, next_any, fails_any, made}
+use Rattle.kt_read.proofs.Still.{done, next_any, fails_any}
 use Rattle.kt_read.proofs.reader.statements.statement_behind_element.Goals as goal
 
 pub returns-in_err-expect : goal.returns-in_err-expect
@@ -21,7 +21,7 @@ pub returns-then-is : goal.returns-then-is
 returns-then-is c =
     let s0 = store_here c.args.name c.args.place c.args.at _ (c.is.ensures.0 c.if-is.true) in
     let s1 = next_any s0 c.in_ok-expect.ensures in
-    made _ (rw (c.into_inner.ensures, c.into_inner-then-is.ensures) at c.boxed.ensures) (done (next_any s1 c.in_ok-value.ensures))
+    (_, c.in_ok-add.ensures, done (next_any s1 c.in_ok-value.ensures))
 
 pub returns-in_err-op : goal.returns-in_err-op
 returns-in_err-op c =
@@ -49,4 +49,4 @@ returns c =
     let s0 = fold_here c.args.name c.args.place c.args.at _ (λ e. cc (c.is.ensures.1 e, c.if-is.false)) in
     let s1 = next_any s0 c.in_ok-op.ensures in
     let s2 = next_any s1 c.in_ok-expect-2.ensures in
-    made _ (rw (c.into_inner-2.ensures, c.into_inner-3.ensures) at c.boxed-2.ensures) (done (next_any s2 c.in_ok-value-2.ensures))
+    (_, c.in_ok-add-2.ensures, done (next_any s2 c.in_ok-value-2.ensures))

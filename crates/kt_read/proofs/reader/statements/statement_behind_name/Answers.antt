@@ -2,7 +2,7 @@ use Rattle.std.proofs.lemmas.Result.{err_from_is_err_and}
 use Rattle.kt_read.specs.Follows.{any}
 use Rattle.kt_read.proofs.StatementSteps.{element_completes, set_here, set_completes, index_here, index_completes}
 use Rattle.kt_read.proofs.Signs.{done_completes}
-use Rattle.kt_read.proofs.Still.{done, answers, next_any, fails_any, made}
+use Rattle.kt_read.proofs.Still.{done, adds, next_any, fails_any}
 use Rattle.kt_read.proofs.reader.statements.statement_behind_name.Goals as goal
 
 pub returns-in_err-expect : goal.returns-in_err-expect
@@ -22,7 +22,7 @@ pub returns-then-is : goal.returns-then-is
 returns-then-is c =
     let s0 = set_here c.args.name c.args.place _ (c.is.ensures.0 c.if-is.true) in
     let s1 = next_any s0 c.in_ok-expect.ensures in
-    made _ (rw c.into_inner.ensures at c.boxed.ensures) (done (next_any s1 c.in_ok-value.ensures))
+    (_, c.in_ok-add.ensures, done (next_any s1 c.in_ok-value.ensures))
 
 pub returns-in_err-expect-2 : goal.returns-in_err-expect-2
 returns-in_err-expect-2 c =
@@ -41,4 +41,4 @@ pub returns : goal.returns
 returns c =
     let s0 = index_here c.args.name c.args.place _ (λ e. cc (c.is.ensures.1 e, c.if-is.false)) in
     let s1 = next_any s0 c.in_ok-expect-2.ensures in
-    answers any _ _ (next_any s1 c.in_ok-at.ensures) c.statement_behind_element.ensures (λ us h. h)
+    adds any _ _ _ _ (next_any s1 c.in_ok-at.ensures) c.statement_behind_element.ensures (λ us h. h)
