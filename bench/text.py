@@ -16,6 +16,7 @@ Then texts with more than a program may have are checked, by how many:
   lets     `let` statements of one block, each with the name before it
   params   parameters of one task, and as many names in its body
   ahead    forks in front of the tasks that they fork
+  handed   forks in front of the objects that they hand on
 Sizes double, so that a time that is not linear shows. At last `kaapi seq` reads 2^20 numbers and writes their rows."""
 import pathlib, re, subprocess, sys, tempfile, time
 
@@ -77,9 +78,10 @@ def many(count):
     yield "lets", "main {\n  let v0 = 0;\n" + lets + "}\ndata\n"
     params, names = ", ".join(f"int p{k}" for k in range(count)), "".join(f"  let v = p{k};\n" for k in range(count))
     yield "params", f"task t({params}) {{\n{names}}}\nmain {{}}\ndata\n"
-    if count <= 40_000:
-        forks, bodies = "".join(f"  fork t{k}();\n" for k in range(count)), "".join(f"task t{k}() {{}}\n" for k in range(count))
-        yield "ahead", "main {\n" + forks + "}\n" + bodies + "data\n"
+    forks, bodies = "".join(f"  fork t{k}();\n" for k in range(count)), "".join(f"task t{k}() {{}}\n" for k in range(count))
+    yield "ahead", "main {\n" + forks + "}\n" + bodies + "data\n"
+    forks = "".join(f"  fork t(A{k});\n" for k in range(count))
+    yield "handed", "main {\n" + forks + "}\ntask t(x P) {}\n" + objects + "data\n"
 
 
 def data():
