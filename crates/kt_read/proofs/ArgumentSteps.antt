@@ -4,24 +4,25 @@ use Rattle.kt_law.specs.declared.places.Place.{Place}
 use Rattle.kt_prog.specs.declared.programs.Arg.{Arg}
 use Rattle.kt_prog.specs.declared.programs.ArgWhat.TheVariants.{Value, Span}
 use Rattle.kt_prog.specs.declared.programs.Expr.{Expr, Num, Var, Elem}
-use Rattle.kt_read.specs.declared.source.Unread.{Unread}
-use Rattle.kt_read.specs.declared.source.Unread.TheVariants as U
-use Rattle.kt_read.specs.declared.tokens.Mark.TheVariants as T
-use Rattle.kt_read.specs.declared.tokens.Symbol.{Symbol}
-use Rattle.kt_read.specs.declared.tokens.Symbol.TheVariants as S
-use Rattle.kt_read.specs.declared.tokens.Tok.{Tok}
-use Rattle.kt_read.specs.Ahead.{Ahead, next_of, mark_of}
+use Rattle.kt_tokens.specs.declared.source.Unread.{Unread}
+use Rattle.kt_tokens.specs.declared.source.Unread.TheVariants as U
+use Rattle.kt_tokens.specs.declared.tokens.Mark.TheVariants as T
+use Rattle.kt_tokens.specs.declared.tokens.Symbol.{Symbol}
+use Rattle.kt_tokens.specs.declared.tokens.Symbol.TheVariants as S
+use Rattle.kt_tokens.specs.declared.tokens.Tok.{Tok}
+use Rattle.kt_tokens.specs.Ahead.{Ahead, next_of, mark_of}
+use Rattle.kt_tokens.specs.Reading.{Follows, Reads, Refuses, Deep, Answers, Sign, sign, AName, a_name}
+use Rattle.kt_tokens.specs.Tokens.{◌·◌, named}
+use Rattle.kt_tokens.proofs.Moves.{heads, first_is}
 use Rattle.kt_read.specs.ArgumentResiduals.{AfterArgName, in_square, in_value, AfterIndex, ranged, indexed, AfterSquare, after_arguments, MoreArgs, no_more, one_more, Forked, AfterFirst, argued, lengthy}
 use Rattle.kt_read.specs.Expressions.{ReadsExpr, alone, sum_of, no_term, product_of, no_factor, ReadsAtom, number, name, element, function, group}
-use Rattle.kt_read.specs.Follows.{after_atom, after_expression, Follows}
-use Rattle.kt_read.specs.Reading.{Reads, Refuses, Deep, Answers, Sign, sign, AName, a_name}
+use Rattle.kt_read.specs.Follows.{after_atom, after_expression}
 use Rattle.kt_read.specs.Residuals.{Then, Done, ExprThen, AfterName, bare, square, call, AfterAtom}
 use Rattle.kt_read.specs.Statements.{ReadsArg, value, span, ReadsArgs, one_arg, more_args, ReadsMaybeArgs, no_args, some_args, ReadsForked, without_length, with_length}
-use Rattle.kt_read.specs.Tokens.{◌·◌, named}
 use Rattle.kt_read.proofs.ExpressionSteps.{may_not, name_less, name_more, expr_split, expr_join, after_atom_follows, after_atom_ends, after_atom_completes, expression_completes, expression_then_completes}
 use Rattle.kt_read.proofs.Operators.{May}
-use Rattle.kt_read.proofs.Signs.{somewhere, done_completes}
-use Rattle.kt_read.proofs.Still.{Still, Completes, here, is, done, stuck, then_completes, heads, first_is}
+use Rattle.kt_read.proofs.Completing.{somewhere, done_completes}
+use Rattle.kt_read.proofs.Still.{Still, Completes, here, is, done, stuck, then_completes}
 
 abbrev pub valued : Place → Expr → Arg
 valued p e = record { place = p; what = Value e }

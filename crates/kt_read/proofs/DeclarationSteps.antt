@@ -8,23 +8,21 @@ use Rattle.kt_prog.specs.declared.programs.Main.{Main}
 use Rattle.kt_prog.specs.declared.programs.Param.{Param}
 use Rattle.kt_prog.specs.declared.programs.Stmt.{Stmt}
 use Rattle.kt_prog.specs.declared.programs.Task.{Task}
+use Rattle.kt_tokens.specs.declared.tokens.Mark.TheVariants as T
+use Rattle.kt_tokens.specs.declared.tokens.Symbol.TheVariants as S
+use Rattle.kt_tokens.specs.declared.tokens.Tok.{Tok}
+use Rattle.kt_tokens.specs.Ahead.{Ahead, mark_of, next_of}
+use Rattle.kt_tokens.specs.Reading.{Follows, any, Reads, Sign, sign, AName, a_name, AWord, a_word, ANumber, a_number}
+use Rattle.kt_tokens.specs.Tokens.{◌·◌}
 use Rattle.kt_read.specs.declared.reader.declarations.Declared.{Declared}
 use Rattle.kt_read.specs.declared.reader.declarations.Declared.TheVariants as D
-use Rattle.kt_read.specs.declared.tokens.Mark.TheVariants as T
-use Rattle.kt_read.specs.declared.tokens.Symbol.TheVariants as S
-use Rattle.kt_read.specs.declared.tokens.Tok.{Tok}
-use Rattle.kt_read.specs.Ahead.{Ahead, mark_of, next_of}
 use Rattle.kt_read.specs.DeclarationParts.{LoopOf, Outset, ReadsDeclaration, family, task, main, Sized, TaskOf, closing, not_square, not_word}
-use Rattle.kt_read.specs.Follows.{Follows, any}
 use Rattle.kt_read.specs.Programs as P
 use Rattle.kt_read.specs.Programs.{ReadsSize, single, range, ReadsFamily, ReadsMaybeParams, no_params, ReadsTask, ReadsMain, ReadsMaybe, left_out, written}
-use Rattle.kt_read.specs.Reading.{Reads, Sign, sign, AName, a_name, AWord, a_word, ANumber, a_number}
 use Rattle.kt_read.specs.Residuals.{Then, Done}
 use Rattle.kt_read.specs.Statements.{ReadsBlock, block, no_stmt}
-use Rattle.kt_read.specs.Tokens.{◌·◌}
 use Rattle.kt_read.proofs.OneTokens.{bars, bars_word, settled}
-use Rattle.kt_read.proofs.Signs.{done_completes, name_completes, sign_completes, somewhere}
-use Rattle.kt_read.proofs.WordSigns.{number_completes, word_completes}
+use Rattle.kt_read.proofs.Completing.{done_completes, name_completes, sign_completes, somewhere, number_completes, word_completes}
 use Rattle.kt_read.proofs.Still.{Still, here, is, done, Completes, then_completes}
 
 -- ---- [ "[" NUMBER "]" ]

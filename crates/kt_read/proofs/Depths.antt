@@ -3,18 +3,18 @@ use Rattle.std.proofs.Common.{◌≡◌, ℕ, ◌+◌, ◌<◌, ◌≤◌, List,
 use Rattle.std.proofs.lemmas.Bool.{le-leb, leb-true, leb-false}
 use Rattle.kt_law.specs.declared.limits.TheConstants.{BRACKETS, EXPRESSION_TOKENS}
 use Rattle.kt_prog.specs.declared.programs.Program.{Program}
-use Rattle.kt_read.specs.declared.gauge.Gauge.{Gauge}
-use Rattle.kt_read.specs.declared.gauge.Reach.{Reach}
-use Rattle.kt_read.specs.declared.gauge.Reach.TheVariants.{Apart, Forking, Within}
-use Rattle.kt_read.specs.declared.tokens.Mark.TheVariants as T
-use Rattle.kt_read.specs.declared.tokens.Symbol.{Symbol}
-use Rattle.kt_read.specs.declared.tokens.Symbol.TheVariants as S
-use Rattle.kt_read.specs.declared.tokens.Tok.{Tok}
+use Rattle.kt_tokens.specs.declared.gauge.Gauge.{Gauge}
+use Rattle.kt_tokens.specs.declared.gauge.Reach.{Reach}
+use Rattle.kt_tokens.specs.declared.gauge.Reach.TheVariants.{Apart, Forking, Within}
+use Rattle.kt_tokens.specs.declared.tokens.Mark.TheVariants as T
+use Rattle.kt_tokens.specs.declared.tokens.Symbol.{Symbol}
+use Rattle.kt_tokens.specs.declared.tokens.Symbol.TheVariants as S
+use Rattle.kt_tokens.specs.declared.tokens.Tok.{Tok}
+use Rattle.kt_tokens.specs.Gauge.{ends_span, gauge_after, gauge_behind, is_end_sign, is_long, is_opening, is_over, longer, reach_apart, reach_behind, reach_ended, reach_forking, start_gauge}
+use Rattle.kt_tokens.specs.Ahead.{Ahead, all_ahead, rest_of, Moved, still, moved}
 use Rattle.kt_read.specs.Outermost.{OuterProgram}
 use Rattle.kt_read.specs.Programs.{ReadsProgram}
 use Rattle.kt_read.specs.Jobs.{IsOpening, IsLong, IsDeep, IsShallow, opened}
-use Rattle.kt_read.specs.Gauge.{ends_span, gauge_after, gauge_behind, is_end_sign, is_long, is_opening, is_over, longer, reach_apart, reach_behind, reach_ended, reach_forking, start_gauge}
-use Rattle.kt_read.specs.Ahead.{Ahead, all_ahead, rest_of, Moved, still, moved}
 use Rattle.kt_read.proofs.Endings.{same_head, same_tail}
 use Rattle.kt_read.proofs.Spans.{within, behind, Inside, stay, on, Found, FoundIn, At, Cover, here, next, grown}
 use Rattle.kt_read.proofs.SpanPrograms.{program_cover}

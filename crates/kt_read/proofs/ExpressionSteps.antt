@@ -3,21 +3,23 @@ use Rattle.std.proofs.Common.{◌≡◌, ℕ, Bool, true, false, List, [], ◌�
 use Rattle.kt_law.specs.declared.places.Place.{Place}
 use Rattle.kt_law.specs.declared.operators.BinOp.{BinOp}
 use Rattle.kt_prog.specs.declared.programs.Expr.{Expr, Num, Var, Elem, Bin}
-use Rattle.kt_read.specs.declared.tokens.Mark.{Mark}
-use Rattle.kt_read.specs.declared.tokens.Mark.TheVariants as T
-use Rattle.kt_read.specs.declared.tokens.Symbol.{Symbol}
-use Rattle.kt_read.specs.declared.tokens.Symbol.TheVariants as S
-use Rattle.kt_read.specs.declared.tokens.Tok.{Tok}
-use Rattle.kt_read.specs.Ahead.{Ahead, next_of, mark_of}
+use Rattle.kt_tokens.specs.declared.tokens.Mark.{Mark}
+use Rattle.kt_tokens.specs.declared.tokens.Mark.TheVariants as T
+use Rattle.kt_tokens.specs.declared.tokens.Symbol.{Symbol}
+use Rattle.kt_tokens.specs.declared.tokens.Symbol.TheVariants as S
+use Rattle.kt_tokens.specs.declared.tokens.Tok.{Tok}
+use Rattle.kt_tokens.specs.Ahead.{Ahead, next_of, mark_of}
+use Rattle.kt_tokens.specs.Reading.{Follows, Reads, Sign, sign, AName, a_name, ANumber, a_number}
+use Rattle.kt_tokens.specs.Tokens.{◌·◌, numbered}
+use Rattle.kt_tokens.proofs.Signs.{mark_at}
+use Rattle.kt_tokens.proofs.Moves.{Advanced}
 use Rattle.kt_read.specs.Expressions.{ReadsExpr, alone, compared, ReadsSum, sum_of, ReadsTerms, no_term, one_term, ReadsProduct, product_of, ReadsFactors, no_factor, one_factor, ReadsAtom, number, name, element, function, group}
-use Rattle.kt_read.specs.Follows.{after_atom, after_product, after_sum, after_expression, Follows}
+use Rattle.kt_read.specs.Follows.{after_atom, after_product, after_sum, after_expression}
 use Rattle.kt_read.specs.Operators.{comparison_of, additive_of, multiplicative_of, function_of}
-use Rattle.kt_read.specs.Reading.{Reads, Sign, sign, AName, a_name, ANumber, a_number}
 use Rattle.kt_read.specs.Residuals.{Then, Done, Closing, ExprThen, AfterAtom, AfterName, bare, square, call, AfterSum, no_comparison, comparison}
-use Rattle.kt_read.specs.Tokens.{◌·◌, numbered}
 use Rattle.kt_read.proofs.Operators.{NoOperator, no_operator, additive_may, multiplicative_may, comparison_may, product_to_atom, sum_to_product, expression_to_sum, additive_ends, multiplicative_ends, comparison_ends}
-use Rattle.kt_read.proofs.Signs.{mark_at, somewhere, done_completes, sign_completes}
-use Rattle.kt_read.proofs.Still.{Still, Advanced, Completes, GoesOnWith, here, is, step, done, then_completes}
+use Rattle.kt_read.proofs.Completing.{somewhere, done_completes, sign_completes}
+use Rattle.kt_read.proofs.Still.{Still, Completes, GoesOnWith, here, is, step, done, then_completes}
 
 abbrev Allowed : Bool → Type 0
 Allowed b = elim b [ true ↦ Unit {0} | false ↦ ⊥ ]

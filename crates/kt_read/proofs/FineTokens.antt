@@ -17,11 +17,11 @@ use Rattle.kt_text.specs.Gaps.{start_of}
 use Rattle.kt_text.specs.Lexemes.{lexeme_of, number_of, sign_of, word_of}
 use Rattle.kt_text.specs.Tokens.{Lexes, token_at}
 use Rattle.kt_text.proofs.Cases.{cases}
-use Rattle.kt_read.specs.declared.tokens.Mark.{Mark}
-use Rattle.kt_read.specs.declared.tokens.Symbol.{Symbol}
-use Rattle.kt_read.specs.declared.tokens.Symbol.TheVariants as S
-use Rattle.kt_read.specs.declared.tokens.Tok.{Tok}
-use Rattle.kt_read.specs.Words.{mark_in, mark_or, operators, punctuation, reserved, symbol_of, toks_of}
+use Rattle.kt_tokens.specs.declared.tokens.Mark.{Mark}
+use Rattle.kt_tokens.specs.declared.tokens.Symbol.{Symbol}
+use Rattle.kt_tokens.specs.declared.tokens.Symbol.TheVariants as S
+use Rattle.kt_tokens.specs.declared.tokens.Tok.{Tok}
+use Rattle.kt_tokens.specs.Words.{mark_in, mark_or, operators, punctuation, reserved, symbol_of, toks_of}
 use Rattle.kt_read.proofs.Spelled.{IsWordText}
 
 -- a word that may be a name

@@ -5,17 +5,16 @@ use Rattle.std.proofs.lemmas.Bool.{eqb-true}
 use Rattle.std.proofs.lemmas.Bool.Decides.{nat_tests}
 use Rattle.kt_law.specs.declared.operators.BinOp.{BinOp}
 use Rattle.kt_law.specs.declared.places.Place.{Place}
-use Rattle.kt_read.specs.declared.gauge.Gauge.{Gauge}
-use Rattle.kt_read.specs.declared.gauge.Reach.{Reach}
-use Rattle.kt_read.specs.declared.gauge.Reach.TheVariants.{Within}
-use Rattle.kt_read.specs.declared.tokens.Mark.TheVariants as T
-use Rattle.kt_read.specs.declared.tokens.Symbol.{Symbol}
-use Rattle.kt_read.specs.declared.tokens.Symbol.TheVariants as S
-use Rattle.kt_read.specs.declared.tokens.Tok.{Tok}
-use Rattle.kt_read.specs.Gauge.{ends_span, is_end_sign, is_opening, reach_ended}
-use Rattle.kt_read.specs.Jobs.{open_behind}
+use Rattle.kt_tokens.specs.declared.gauge.Gauge.{Gauge}
+use Rattle.kt_tokens.specs.declared.gauge.Reach.{Reach}
+use Rattle.kt_tokens.specs.declared.gauge.Reach.TheVariants.{Within}
+use Rattle.kt_tokens.specs.declared.tokens.Mark.TheVariants as T
+use Rattle.kt_tokens.specs.declared.tokens.Symbol.{Symbol}
+use Rattle.kt_tokens.specs.declared.tokens.Symbol.TheVariants as S
+use Rattle.kt_tokens.specs.declared.tokens.Tok.{Tok}
+use Rattle.kt_tokens.specs.Gauge.{ends_span, is_end_sign, is_opening, reach_ended, open_behind}
+use Rattle.kt_tokens.specs.Tokens.{◌·◌, named}
 use Rattle.kt_read.specs.Operators.{additive_of, comparison_of, multiplicative_of}
-use Rattle.kt_read.specs.Tokens.{◌·◌, named}
 use Rattle.kt_read.proofs.Spans.{apart, behind, within}
 
 -- ---- in general

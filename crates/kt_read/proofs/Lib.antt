@@ -1,4 +1,3 @@
-pub mod WordNames
 pub mod Endings
 pub mod OneExpression
 pub mod OneStatement
@@ -17,11 +16,9 @@ pub mod PrintedStatements
 pub mod PrintedPrograms
 pub mod OneRefusal
 pub mod Still
-pub mod Signs
+pub mod Completing
 pub mod Operators
 pub mod Shrinking
-pub mod WordSigns
-pub mod Places
 pub mod OneTokens
 pub mod OperationSteps
 pub mod ParamSteps

@@ -8,12 +8,12 @@ use Rattle.kt_prog.specs.declared.programs.ArgWhat.TheVariants.{Value, Span}
 use Rattle.kt_prog.specs.declared.programs.Expr.{Expr}
 use Rattle.kt_prog.specs.declared.programs.Stmt.{Stmt}
 use Rattle.kt_prog.specs.declared.programs.What.{What, Let, Set, Store, Fold, If, For, Fork}
-use Rattle.kt_read.specs.declared.tokens.Mark.{Mark}
-use Rattle.kt_read.specs.declared.tokens.Mark.TheVariants as T
-use Rattle.kt_read.specs.declared.tokens.Symbol.{Symbol}
-use Rattle.kt_read.specs.declared.tokens.Symbol.TheVariants as S
-use Rattle.kt_read.specs.declared.tokens.Tok.{Tok}
-use Rattle.kt_read.specs.Tokens.{◌·◌, named}
+use Rattle.kt_tokens.specs.declared.tokens.Mark.{Mark}
+use Rattle.kt_tokens.specs.declared.tokens.Mark.TheVariants as T
+use Rattle.kt_tokens.specs.declared.tokens.Symbol.{Symbol}
+use Rattle.kt_tokens.specs.declared.tokens.Symbol.TheVariants as S
+use Rattle.kt_tokens.specs.declared.tokens.Tok.{Tok}
+use Rattle.kt_tokens.specs.Tokens.{◌·◌, named}
 use Rattle.kt_read.specs.Expressions.{ReadsExpr, alone, compared, ReadsSum, sum_of, ReadsProduct, product_of, ReadsAtom, number, name, element, function, group}
 use Rattle.kt_read.specs.Statements.{ReadsOp, op_word, ReadsArg, value, span, ReadsArgs, one_arg, more_args, ReadsMaybeArgs, no_args, some_args, ReadsForked, without_length, with_length, ReadsBlock, block, ReadsStmts, no_stmt, one_stmt, ReadsElse, no_else, else_block, ReadsStmt, let_stmt, set_stmt, store_stmt, fold_stmt, if_stmt, for_stmt, fork_stmt}
 use Rattle.kt_read.proofs.Fronts.{at_front}

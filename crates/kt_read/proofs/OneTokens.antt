@@ -1,16 +1,15 @@
 -- A part that is one token.
 use Rattle.std.proofs.Common.{◌≡◌, Bool, true, false, List, [], ◌∷◌, ap, subst, sym, ◌∙◌, Option, Some, None, ℕ}
-use Rattle.kt_read.specs.declared.tokens.Mark.{Mark}
-use Rattle.kt_read.specs.declared.tokens.Symbol.{Symbol}
-use Rattle.kt_read.specs.declared.tokens.Symbol.TheVariants as S
-use Rattle.kt_read.specs.declared.tokens.Tok.{Tok}
-use Rattle.kt_read.specs.Ahead.{Ahead, still, next_of, mark_of}
+use Rattle.kt_tokens.specs.declared.tokens.Mark.{Mark}
+use Rattle.kt_tokens.specs.declared.tokens.Symbol.{Symbol}
+use Rattle.kt_tokens.specs.declared.tokens.Symbol.TheVariants as S
+use Rattle.kt_tokens.specs.declared.tokens.Tok.{Tok}
+use Rattle.kt_tokens.specs.Ahead.{Ahead, still, next_of, mark_of}
+use Rattle.kt_tokens.specs.Reading.{Follows, any, Reads, Refuses, Deep}
+use Rattle.kt_tokens.specs.Gauge.{is_over}
+use Rattle.kt_tokens.proofs.Signs.{mark_at}
+use Rattle.kt_tokens.proofs.Moves.{Advanced, moved_one}
 use Rattle.kt_read.specs.DeclarationParts.{named_in}
-use Rattle.kt_read.specs.Follows.{Follows, any}
-use Rattle.kt_read.specs.Gauge.{is_over}
-use Rattle.kt_read.specs.Reading.{Reads, Refuses, Deep}
-use Rattle.kt_read.proofs.Signs.{mark_at}
-use Rattle.kt_read.proofs.Still.{Advanced, moved_one}
 
 pub token_read : {A : Type 0} (X : A → List Tok → List Tok → Type 0) (old new : Ahead) (a : A) → Advanced old new → ((rest : List Tok) → X a (next_of old ∷ rest) rest) →
     ((b : A) (more rest : List Tok) → X b (next_of old ∷ more) rest → (b ≡ a) × (rest ≡ more)) → Reads X any old new a

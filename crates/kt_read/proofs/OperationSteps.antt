@@ -5,23 +5,22 @@ use Rattle.kt_law.specs.declared.modes.Mode.TheVariants.{Cw, Cwp}
 use Rattle.kt_law.specs.declared.operators.Op.{Op}
 use Rattle.kt_law.specs.declared.operators.Op.TheVariants as O
 use Rattle.kt_law.specs.declared.places.Place.{Place}
-use Rattle.kt_read.specs.declared.tokens.Mark.TheVariants as T
-use Rattle.kt_read.specs.declared.tokens.Symbol.{Symbol}
-use Rattle.kt_read.specs.declared.tokens.Symbol.TheVariants as S
-use Rattle.kt_read.specs.declared.tokens.Tok.{Tok}
-use Rattle.kt_read.specs.Ahead.{Ahead, next_of}
+use Rattle.kt_tokens.specs.declared.tokens.Mark.TheVariants as T
+use Rattle.kt_tokens.specs.declared.tokens.Symbol.{Symbol}
+use Rattle.kt_tokens.specs.declared.tokens.Symbol.TheVariants as S
+use Rattle.kt_tokens.specs.declared.tokens.Tok.{Tok}
+use Rattle.kt_tokens.specs.Ahead.{Ahead, next_of}
+use Rattle.kt_tokens.specs.Reading.{any, Sign, sign, AWord, a_word}
+use Rattle.kt_tokens.specs.Tokens.{named}
 use Rattle.kt_read.specs.DeclarationParts.{Bracketed, Placed, named_in}
-use Rattle.kt_read.specs.Follows.{any}
 use Rattle.kt_read.specs.Operators.{direct_of, op_of, postponed_of}
 use Rattle.kt_read.specs.Programs.{ReadsDirect, direct, cumulative, ReadsPostponed, postponed, postponed_cumulative}
-use Rattle.kt_read.specs.Reading.{Sign, sign, AWord, a_word}
 use Rattle.kt_read.specs.Residuals.{Then, Done}
 use Rattle.kt_read.specs.Statements.{ReadsOp, op_word}
-use Rattle.kt_read.specs.Tokens.{named}
 use Rattle.kt_read.proofs.Endings.{one_entry, no_entry}
 use Rattle.kt_read.proofs.OneProgram.{cw_apart, cwp_apart}
 use Rattle.kt_read.proofs.OneTokens.{settled}
-use Rattle.kt_read.proofs.Signs.{somewhere, done_completes, sign_completes}
+use Rattle.kt_read.proofs.Completing.{somewhere, done_completes, sign_completes}
 use Rattle.kt_read.proofs.Still.{Still, here, is, Completes, then_completes}
 
 -- ---- operations

@@ -1,11 +1,12 @@
 -- Operators, and what may follow.
 use Rattle.std.proofs.Common.{◌≡◌, Bool, true, false, List, [], ◌∷◌, Option, Some, None, refl, sym, ap, ◌∙◌}
 use Rattle.kt_law.specs.declared.operators.BinOp.{BinOp}
-use Rattle.kt_read.specs.declared.tokens.Mark.TheVariants as T
-use Rattle.kt_read.specs.declared.tokens.Symbol.{Symbol}
-use Rattle.kt_read.specs.declared.tokens.Symbol.TheVariants as S
-use Rattle.kt_read.specs.declared.tokens.Tok.{Tok}
-use Rattle.kt_read.specs.Follows.{after_atom, after_product, after_sum, after_expression, Follows}
+use Rattle.kt_tokens.specs.declared.tokens.Mark.TheVariants as T
+use Rattle.kt_tokens.specs.declared.tokens.Symbol.{Symbol}
+use Rattle.kt_tokens.specs.declared.tokens.Symbol.TheVariants as S
+use Rattle.kt_tokens.specs.declared.tokens.Tok.{Tok}
+use Rattle.kt_tokens.specs.Reading.{Follows}
+use Rattle.kt_read.specs.Follows.{after_atom, after_product, after_sum, after_expression}
 use Rattle.kt_read.specs.Operators.{comparison_of, additive_of, multiplicative_of}
 
 abbrev pub May : (Symbol → Bool) → Symbol → Type 0

@@ -6,21 +6,20 @@ use Rattle.kt_law.specs.declared.places.Place.{Place}
 use Rattle.kt_prog.specs.declared.programs.Param.{Param}
 use Rattle.kt_prog.specs.declared.programs.Sort.{Sort}
 use Rattle.kt_prog.specs.declared.programs.Sort.TheVariants.{Int, One, Many}
-use Rattle.kt_read.specs.declared.tokens.Mark.TheVariants as T
-use Rattle.kt_read.specs.declared.tokens.Symbol.{Symbol}
-use Rattle.kt_read.specs.declared.tokens.Symbol.TheVariants as S
-use Rattle.kt_read.specs.declared.tokens.Tok.{Tok}
-use Rattle.kt_read.specs.Ahead.{Ahead, mark_of, next_of}
+use Rattle.kt_tokens.specs.declared.tokens.Mark.TheVariants as T
+use Rattle.kt_tokens.specs.declared.tokens.Symbol.{Symbol}
+use Rattle.kt_tokens.specs.declared.tokens.Symbol.TheVariants as S
+use Rattle.kt_tokens.specs.declared.tokens.Tok.{Tok}
+use Rattle.kt_tokens.specs.Ahead.{Ahead, mark_of, next_of}
+use Rattle.kt_tokens.specs.Reading.{Follows, Reads, Sign, sign, AName, a_name, AWord, a_word}
+use Rattle.kt_tokens.specs.Tokens.{named}
 use Rattle.kt_read.specs.DeclarationParts.{DirectParam, IntParam, ParamsLeft, ended, goes_on, PostponedParam, Squares, no_squares, squares, StandsAt, begins_direct, closing, not_square, one_or_many, param_at}
-use Rattle.kt_read.specs.Follows.{Follows}
 use Rattle.kt_read.specs.Operators.{direct_modes, direct_of, postponed_modes, postponed_of}
 use Rattle.kt_read.specs.Programs.{ReadsDirect, direct, cumulative, ReadsPostponed, postponed, postponed_cumulative, ReadsParam, int, one_direct, one_postponed, many_postponed, one_param, more_params, ReadsMaybeParams, no_params, some_params}
-use Rattle.kt_read.specs.Reading.{Reads, Sign, sign, AName, a_name, AWord, a_word}
 use Rattle.kt_read.specs.Residuals.{Then, Done}
-use Rattle.kt_read.specs.Tokens.{named}
 use Rattle.kt_read.proofs.OneProgram.{entry_case}
 use Rattle.kt_read.proofs.OneTokens.{bars, settled}
-use Rattle.kt_read.proofs.Signs.{done_completes, name_completes, sign_completes, somewhere}
+use Rattle.kt_read.proofs.Completing.{done_completes, name_completes, sign_completes, somewhere}
 use Rattle.kt_read.proofs.Still.{Still, here, is, done, Completes, then_completes}
 
 -- ---- "[" "]"

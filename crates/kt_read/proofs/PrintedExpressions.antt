@@ -14,16 +14,16 @@ use Rattle.kt_text.specs.Lexemes.{lexeme_of}
 use Rattle.kt_print.specs.declared.printing.operators.Level.{Level}
 use Rattle.kt_print.specs.declared.printing.operators.Level.TheVariants.{Comparison, Sum, Product, Atom}
 use Rattle.kt_print.specs.CanonicalExpressions.{Printed, applied_text, expr_text, left_grouped, level_of, operand_text, print_layer, printed, right_grouped, sign_of}
-use Rattle.kt_read.specs.declared.tokens.Mark.{Mark}
-use Rattle.kt_read.specs.declared.tokens.Mark.TheVariants as T
-use Rattle.kt_read.specs.declared.tokens.Symbol.{Symbol}
-use Rattle.kt_read.specs.declared.tokens.Symbol.TheVariants as S
-use Rattle.kt_read.specs.declared.tokens.Tok.{Tok}
+use Rattle.kt_tokens.specs.declared.tokens.Mark.{Mark}
+use Rattle.kt_tokens.specs.declared.tokens.Mark.TheVariants as T
+use Rattle.kt_tokens.specs.declared.tokens.Symbol.{Symbol}
+use Rattle.kt_tokens.specs.declared.tokens.Symbol.TheVariants as S
+use Rattle.kt_tokens.specs.declared.tokens.Tok.{Tok}
+use Rattle.kt_tokens.specs.Tokens.{◌·◌, named, numbered}
+use Rattle.kt_tokens.specs.Words.{operators, punctuation, reserved, symbol_of}
 use Rattle.kt_read.specs.Expressions.{ReadsExpr, alone, compared, ReadsSum, sum_of, ReadsTerms, no_term, one_term, ReadsProduct, product_of, ReadsFactors, no_factor, one_factor, ReadsAtom, number, name, element, function, group}
 use Rattle.kt_read.specs.Operators.{additive_of, comparison_of, entry_of, function_of, multiplicative_of}
 use Rattle.kt_read.specs.Placeless.{expr_layer, nowhere, placeless_expr}
-use Rattle.kt_read.specs.Tokens.{◌·◌, named, numbered}
-use Rattle.kt_read.specs.Words.{operators, punctuation, reserved, symbol_of}
 use Rattle.kt_read.proofs.Scanned.{Scans, blank}
 use Rattle.std.specs.Str.{bytes_eq}
 use Rattle.kt_read.proofs.Spans.{within}

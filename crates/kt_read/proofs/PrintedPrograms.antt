@@ -19,13 +19,13 @@ use Rattle.kt_text.specs.Tokens.{Lexes}
 use Rattle.kt_print.specs.CanonicalStatements.{block_text, text_of_stmt}
 use Rattle.kt_print.specs.CanonicalText.{canonical_text, family_text, main_text, mode_text, param_text, params_text, task_text, where_set}
 use Rattle.kt_print.specs.CanonicalWords.{op_word as op_text}
-use Rattle.kt_read.specs.declared.tokens.Tok.{Tok}
+use Rattle.kt_tokens.specs.declared.tokens.Tok.{Tok}
+use Rattle.kt_tokens.specs.Words.{reserved, toks_of}
 use Rattle.kt_read.specs.Operators.{direct_modes, direct_of, postponed_modes, postponed_of}
 use Rattle.kt_read.specs.Placeless.{nowhere, placeless_family, placeless_main, placeless_param, placeless_stmt, placeless_task}
 use Rattle.kt_read.specs.Programs.{ReadsSize, single, range, ReadsFamily, family, ReadsDirect, direct, cumulative, ReadsPostponed, postponed, postponed_cumulative, ReadsParam, int, one_direct, one_postponed, many_postponed, ReadsParams, one_param, more_params, ReadsMaybeParams, no_params, some_params, ReadsTask, task, loop, ReadsMain, main, ReadsProgram, data_word as data_end, one_family, one_task, one_main, ReadsMaybe, left_out, written}
 use Rattle.kt_read.specs.Statements.{ReadsBlock, block, op_word}
 use Rattle.kt_read.specs.Texts.{IsText}
-use Rattle.kt_read.specs.Words.{reserved, toks_of}
 use Rattle.kt_read.specs.Laws.{IsTextAgain}
 use Rattle.kt_read.proofs.Scanned.{Scans, blank, done, lexes}
 use Rattle.kt_read.proofs.Spelled.{NoWord}

@@ -13,12 +13,12 @@ use Rattle.kt_prog.specs.declared.programs.What.TheOpen as F
 use Rattle.kt_print.specs.CanonicalExpressions.{expr_text}
 use Rattle.kt_print.specs.CanonicalStatements.{StmtText, stmt_layer as text_layer, argument_text, arguments_text, block_text, element_text, else_text, forked_text, span_text, text_of_stmt, text_of_what, what_text}
 use Rattle.kt_print.specs.CanonicalWords.{blanks, line, op_word as op_text}
-use Rattle.kt_read.specs.declared.tokens.Mark.TheVariants as T
-use Rattle.kt_read.specs.declared.tokens.Tok.{Tok}
+use Rattle.kt_tokens.specs.declared.tokens.Mark.TheVariants as T
+use Rattle.kt_tokens.specs.declared.tokens.Tok.{Tok}
+use Rattle.kt_tokens.specs.Tokens.{◌·◌, named}
+use Rattle.kt_tokens.specs.Words.{punctuation}
 use Rattle.kt_read.specs.Placeless.{nowhere, placeless_arg, placeless_expr, placeless_length, placeless_stmt, placeless_what, stmt_layer, what_layer}
 use Rattle.kt_read.specs.Statements.{op_word, ReadsArg, value, span, ReadsArgs, one_arg, more_args, no_args, some_args, ReadsForked, without_length, with_length, block, ReadsStmts, no_stmt, one_stmt, ReadsElse, no_else, else_block, ReadsStmt, let_stmt, set_stmt, store_stmt, fold_stmt, if_stmt, for_stmt, fork_stmt}
-use Rattle.kt_read.specs.Tokens.{◌·◌, named}
-use Rattle.kt_read.specs.Words.{punctuation}
 use Rattle.kt_read.proofs.Scanned.{Scans, blank, where_at}
 use Rattle.kt_read.proofs.FineTokens.{AreFine, IsFreeWord}
 use Rattle.kt_read.proofs.Scanning.{a_name, brace_close, brace_open, comma, dots, else_word, for_word, fork_word, if_word, in_word, indented, let_word, op_free, op_is, paren_close, paren_open, semicolon, sign_and_blank, square_close, square_open}

@@ -6,22 +6,21 @@ use Rattle.kt_prog.specs.declared.programs.Family.{Family}
 use Rattle.kt_prog.specs.declared.programs.Main.{Main}
 use Rattle.kt_prog.specs.declared.programs.Program.{Program}
 use Rattle.kt_prog.specs.declared.programs.Task.{Task}
+use Rattle.kt_tokens.specs.declared.tokens.Mark.TheVariants as T
+use Rattle.kt_tokens.specs.declared.tokens.Tok.{Tok}
+use Rattle.kt_tokens.specs.Ahead.{Ahead, mark_of, next_of}
+use Rattle.kt_tokens.specs.Reading.{any, Sign, sign}
+use Rattle.kt_tokens.specs.Tokens.{◌·◌}
 use Rattle.kt_read.specs.declared.reader.declarations.Declared.{Declared}
 use Rattle.kt_read.specs.declared.reader.declarations.Declared.TheVariants as D
 use Rattle.kt_read.specs.declared.reader.programs.Gathered.{Gathered}
-use Rattle.kt_read.specs.declared.tokens.Mark.TheVariants as T
-use Rattle.kt_read.specs.declared.tokens.Tok.{Tok}
-use Rattle.kt_read.specs.Ahead.{Ahead, mark_of, next_of}
 use Rattle.kt_read.specs.DeclarationParts.{ReadsDeclaration, family, task, main}
-use Rattle.kt_read.specs.Follows.{any}
 use Rattle.kt_read.specs.ProgramParts.{added, joined, nothing, ProgramLeft}
 use Rattle.kt_read.specs.Programs.{ReadsProgram, data_word, one_family, one_task, one_main}
-use Rattle.kt_read.specs.Reading.{Sign, sign}
 use Rattle.kt_read.specs.Residuals.{Then, Done}
-use Rattle.kt_read.specs.Tokens.{◌·◌}
 use Rattle.kt_read.proofs.DeclarationSteps.{family_no_data, main_no_data, task_no_data}
 use Rattle.kt_read.proofs.OneTokens.{settled}
-use Rattle.kt_read.proofs.Signs.{somewhere}
+use Rattle.kt_read.proofs.Completing.{somewhere}
 use Rattle.kt_read.proofs.Still.{Still, here, is, Completes}
 
 pub program_here : (old : Ahead) → Still ReadsProgram any old old (ProgramLeft nothing)

@@ -4,20 +4,20 @@ use Rattle.std.specs.Prelude.{◌&&◌, ◌||◌, not}
 use Rattle.kt_law.specs.declared.limits.TheConstants.{BRACKETS, EXPRESSION_TOKENS}
 use Rattle.kt_prog.specs.declared.programs.Program.{Program}
 use Rattle.kt_print.specs.CanonicalText.{canonical_text}
-use Rattle.kt_read.specs.declared.gauge.Gauge.{Gauge}
-use Rattle.kt_read.specs.declared.gauge.Reach.{Reach}
-use Rattle.kt_read.specs.declared.gauge.Reach.TheVariants.{Apart, Forking, Within}
-use Rattle.kt_read.specs.declared.gauge.Span.{Span}
-use Rattle.kt_read.specs.declared.tokens.Mark.TheVariants as T
-use Rattle.kt_read.specs.declared.tokens.Symbol.{Symbol}
-use Rattle.kt_read.specs.declared.tokens.Symbol.TheVariants as S
-use Rattle.kt_read.specs.declared.tokens.Tok.{Tok}
-use Rattle.kt_read.specs.Gauge.{ends_span, gauge_after, gauge_behind, is_long, is_opening, is_over, reach_apart, reach_behind, reach_ended, reach_forking, start_gauge}
-use Rattle.kt_read.specs.Jobs.{IsJob, IsShallow, open_behind}
+use Rattle.kt_tokens.specs.declared.gauge.Gauge.{Gauge}
+use Rattle.kt_tokens.specs.declared.gauge.Reach.{Reach}
+use Rattle.kt_tokens.specs.declared.gauge.Reach.TheVariants.{Apart, Forking, Within}
+use Rattle.kt_tokens.specs.declared.gauge.Span.{Span}
+use Rattle.kt_tokens.specs.declared.tokens.Mark.TheVariants as T
+use Rattle.kt_tokens.specs.declared.tokens.Symbol.{Symbol}
+use Rattle.kt_tokens.specs.declared.tokens.Symbol.TheVariants as S
+use Rattle.kt_tokens.specs.declared.tokens.Tok.{Tok}
+use Rattle.kt_tokens.specs.Gauge.{ends_span, gauge_after, gauge_behind, is_long, is_opening, is_over, reach_apart, reach_behind, reach_ended, reach_forking, start_gauge, open_behind}
+use Rattle.kt_tokens.specs.Words.{toks_of}
+use Rattle.kt_read.specs.Jobs.{IsJob, IsShallow}
 use Rattle.kt_read.specs.Laws.{IsJobAgain, IsTextAgain}
 use Rattle.kt_read.specs.Programs.{ReadsProgram}
 use Rattle.kt_read.specs.Texts.{IsText}
-use Rattle.kt_read.specs.Words.{toks_of}
 use Rattle.kt_read.proofs.Spans.{apart, behind}
 use Rattle.kt_read.proofs.Depths.{AllFit, all_fit, one_fits, fits_shallow, over_is_deep}
 use Rattle.kt_read.proofs.Fits.{Fits, is_not_le, no_sign, or_both, over, too_long}

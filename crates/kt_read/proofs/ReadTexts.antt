@@ -6,16 +6,15 @@ use Rattle.kt_law.specs.declared.places.Refusal.{Refusal}
 use Rattle.kt_prog.specs.declared.programs.Program.{Program}
 use Rattle.kt_text.specs.declared.tokens.Token.{Token}
 use Rattle.kt_text.specs.Tokens.{Lexes, next_token, stop_of}
-use Rattle.kt_read.specs.declared.source.Unread.{Unread}
-use Rattle.kt_read.specs.declared.tokens.Symbol.TheVariants as S
-use Rattle.kt_read.specs.declared.tokens.Tok.{Tok}
-use Rattle.kt_read.specs.Ahead.{Ahead, all_ahead, Moved, still, moved, next_of, refusal_in, rest_of, tok_or_end}
-use Rattle.kt_read.specs.Follows.{any}
+use Rattle.kt_tokens.specs.declared.source.Unread.{Unread}
+use Rattle.kt_tokens.specs.declared.tokens.Symbol.TheVariants as S
+use Rattle.kt_tokens.specs.declared.tokens.Tok.{Tok}
+use Rattle.kt_tokens.specs.Ahead.{Ahead, all_ahead, Moved, still, moved, next_of, refusal_in, rest_of, tok_or_end}
+use Rattle.kt_tokens.specs.Reading.{any, Answers, Deep, Reads, Refuses}
+use Rattle.kt_tokens.specs.Words.{tok_of, toks_of}
 use Rattle.kt_read.specs.Jobs.{GoesOn, IsDeep, IsJob, IsPrefix, IsShallow, IsUnread, malformed, unexpected, too_deep}
 use Rattle.kt_read.specs.Programs.{ReadsProgram}
-use Rattle.kt_read.specs.Reading.{Answers, Deep, Reads, Refuses}
 use Rattle.kt_read.specs.ReadRefusals.{refused_at, refusal_or}
-use Rattle.kt_read.specs.Words.{tok_of, toks_of}
 use Rattle.kt_read.proofs.Depths.{read_deep, read_shallow}
 use Rattle.kt_read.proofs.MoreTokens.{program_more}
 use Rattle.kt_read.proofs.OneProgram.{program_is}

@@ -10,9 +10,9 @@ use Rattle.kt_text.specs.Gaps.{BeginsNoGap, gap, goes_on, is_gap, start_of}
 use Rattle.kt_text.specs.Lexemes.{lexeme_of}
 use Rattle.kt_text.specs.Places.{place_of}
 use Rattle.kt_text.specs.Tokens.{Lexes, next_token, token_at}
-use Rattle.kt_read.specs.declared.tokens.Symbol.{Symbol}
-use Rattle.kt_read.specs.declared.tokens.Tok.{Tok}
-use Rattle.kt_read.specs.Words.{symbol_of, tok_of, toks_of}
+use Rattle.kt_tokens.specs.declared.tokens.Symbol.{Symbol}
+use Rattle.kt_tokens.specs.declared.tokens.Tok.{Tok}
+use Rattle.kt_tokens.specs.Words.{symbol_of, tok_of, toks_of}
 
 -- the place where such an end of the bytes begins
 abbrev pub where_at : List ℕ → List ℕ → Place

@@ -12,13 +12,13 @@ use Rattle.kt_text.specs.Bytes.{is_letter, is_word_byte}
 use Rattle.kt_text.specs.Gaps.{BeginsNoGap}
 use Rattle.kt_text.specs.Lexemes.{lexeme_of}
 use Rattle.kt_print.specs.CanonicalWords.{blanks, op_word}
-use Rattle.kt_read.specs.declared.tokens.Mark.{Mark}
-use Rattle.kt_read.specs.declared.tokens.Mark.TheVariants as T
-use Rattle.kt_read.specs.declared.tokens.Symbol.TheVariants as S
-use Rattle.kt_read.specs.declared.tokens.Tok.{Tok}
+use Rattle.kt_tokens.specs.declared.tokens.Mark.{Mark}
+use Rattle.kt_tokens.specs.declared.tokens.Mark.TheVariants as T
+use Rattle.kt_tokens.specs.declared.tokens.Symbol.TheVariants as S
+use Rattle.kt_tokens.specs.declared.tokens.Tok.{Tok}
+use Rattle.kt_tokens.specs.Tokens.{◌·◌, named, numbered}
+use Rattle.kt_tokens.specs.Words.{mark_in, mark_or, punctuation, reserved, symbol_of}
 use Rattle.kt_read.specs.Operators.{op_of}
-use Rattle.kt_read.specs.Tokens.{◌·◌, named, numbered}
-use Rattle.kt_read.specs.Words.{mark_in, mark_or, punctuation, reserved, symbol_of}
 use Rattle.kt_read.proofs.Scanned.{Scans, blank, token, where_at}
 use Rattle.kt_read.proofs.Spelled.{IsLoneSign, IsWordText, NoWord, decimal_writes, lone_lexeme, number_begins, number_lexeme, word_begins, word_lexeme}
 use Rattle.kt_read.proofs.FineTokens.{IsFreeWord}

@@ -10,16 +10,15 @@ use Rattle.kt_text.specs.Lexemes.{lexeme_of}
 use Rattle.kt_text.specs.Places.{place_of}
 use Rattle.kt_text.specs.Tokens.{next_token, stop_of, token_at}
 use Rattle.kt_text.proofs.Fits.{next_token-behind}
-use Rattle.kt_read.specs.declared.tokens.Symbol.{Symbol}
-use Rattle.kt_read.specs.declared.tokens.Symbol.TheVariants as S
-use Rattle.kt_read.specs.declared.tokens.Tok.{Tok}
-use Rattle.kt_read.specs.Ahead.{Ahead, Moved, still, moved, next_of, rest_of, tok_or_end}
+use Rattle.kt_tokens.specs.declared.tokens.Symbol.{Symbol}
+use Rattle.kt_tokens.specs.declared.tokens.Symbol.TheVariants as S
+use Rattle.kt_tokens.specs.declared.tokens.Tok.{Tok}
+use Rattle.kt_tokens.specs.Ahead.{Ahead, Moved, still, moved, next_of, rest_of, tok_or_end}
 use Rattle.kt_law.specs.declared.places.Place.{Place}
-use Rattle.kt_read.specs.declared.tokens.Mark.{Mark}
-use Rattle.kt_read.specs.Follows.{any}
-use Rattle.kt_read.specs.Reading.{Reads, Sign, AName}
-use Rattle.kt_read.specs.Words.{symbol_of}
-use Rattle.kt_read.proofs.Still.{Advanced}
+use Rattle.kt_tokens.specs.declared.tokens.Mark.{Mark}
+use Rattle.kt_tokens.specs.Reading.{any, Reads, Sign, AName}
+use Rattle.kt_tokens.specs.Words.{symbol_of}
+use Rattle.kt_tokens.proofs.Moves.{Advanced}
 
 -- the bytes behind the last token that was read
 abbrev pub left : Ahead → ℕ

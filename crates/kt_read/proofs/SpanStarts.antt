@@ -1,8 +1,8 @@
 -- At its first token an outermost expression begins for the gauge too.
 use Rattle.std.proofs.Common.{ℕ, suc, List, Bool, true, false, refl, arith}
 use Rattle.kt_prog.specs.declared.programs.Expr.{Expr}
-use Rattle.kt_read.specs.declared.gauge.Gauge.{Gauge}
-use Rattle.kt_read.specs.declared.tokens.Tok.{Tok}
+use Rattle.kt_tokens.specs.declared.gauge.Gauge.{Gauge}
+use Rattle.kt_tokens.specs.declared.tokens.Tok.{Tok}
 use Rattle.kt_read.specs.Expressions.{ReadsExpr}
 use Rattle.kt_read.specs.Statements.{op_word}
 use Rattle.kt_read.specs.Outermost.{OuterArgs, last_arg, this_arg, later_arg, OuterStmt, let_value, set_value, element_index, store_value, fold_value, if_test, in_then, in_else, for_first, for_end, in_for, fork_length, fork_arg, fork_arg_behind_length, OuterBlock, in_stmt, OuterProgram, in_task, in_loop, in_main, behind_family, behind_task, behind_main}

@@ -5,10 +5,10 @@ use Rattle.kt_law.specs.declared.places.Place.{Place}
 use Rattle.kt_prog.specs.declared.programs.Arg.{Arg}
 use Rattle.kt_prog.specs.declared.programs.Expr.{Expr}
 use Rattle.kt_prog.specs.declared.programs.Stmt.{Stmt}
-use Rattle.kt_read.specs.declared.gauge.Gauge.{Gauge}
-use Rattle.kt_read.specs.declared.tokens.Mark.TheVariants as T
-use Rattle.kt_read.specs.declared.tokens.Tok.{Tok}
-use Rattle.kt_read.specs.Tokens.{◌·◌, named}
+use Rattle.kt_tokens.specs.declared.gauge.Gauge.{Gauge}
+use Rattle.kt_tokens.specs.declared.tokens.Mark.TheVariants as T
+use Rattle.kt_tokens.specs.declared.tokens.Tok.{Tok}
+use Rattle.kt_tokens.specs.Tokens.{◌·◌, named}
 use Rattle.kt_read.specs.Expressions.{ReadsExpr}
 use Rattle.kt_read.specs.Statements.{op_word, ReadsArg, ReadsArgs, one_arg, more_args, ReadsMaybeArgs, no_args, some_args, ReadsForked, without_length, with_length, ReadsBlock, block, ReadsStmts, no_stmt, one_stmt, ReadsElse, no_else, else_block, ReadsStmt, let_stmt, set_stmt, store_stmt, fold_stmt, if_stmt, for_stmt, fork_stmt}
 use Rattle.kt_read.specs.Outermost.{OuterArgs, last_arg, this_arg, later_arg, OuterStmt, let_value, set_value, element_index, store_value, fold_value, if_test, in_then, in_else, for_first, for_end, in_for, fork_length, fork_arg, fork_arg_behind_length, OuterBlock, in_stmt}

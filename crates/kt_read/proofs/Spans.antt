@@ -2,13 +2,12 @@
 use Rattle.std.proofs.Common.{◌≡◌, ℕ, suc, ◌+◌, ◌<◌, ◌≤◌, List, ◌∷◌, length, Bool, true, false, ◌&&◌, not, nat_eq, nat_le, refl, arith, eq-eqb}
 use Rattle.std.proofs.lemmas.Bool.{eqb-true}
 use Rattle.kt_law.specs.declared.limits.TheConstants.{EXPRESSION_TOKENS}
-use Rattle.kt_read.specs.declared.gauge.Gauge.{Gauge}
-use Rattle.kt_read.specs.declared.gauge.Reach.{Reach}
-use Rattle.kt_read.specs.declared.gauge.Reach.TheVariants.{Apart, Forking, Within}
-use Rattle.kt_read.specs.declared.tokens.Symbol.{Symbol}
-use Rattle.kt_read.specs.declared.tokens.Tok.{Tok}
-use Rattle.kt_read.specs.Jobs.{open_behind}
-use Rattle.kt_read.specs.Gauge.{is_end_sign, is_long, reach_behind, reach_ended}
+use Rattle.kt_tokens.specs.declared.gauge.Gauge.{Gauge}
+use Rattle.kt_tokens.specs.declared.gauge.Reach.{Reach}
+use Rattle.kt_tokens.specs.declared.gauge.Reach.TheVariants.{Apart, Forking, Within}
+use Rattle.kt_tokens.specs.declared.tokens.Symbol.{Symbol}
+use Rattle.kt_tokens.specs.declared.tokens.Tok.{Tok}
+use Rattle.kt_tokens.specs.Gauge.{open_behind, is_end_sign, is_long, reach_behind, reach_ended}
 
 -- ---- states
 

@@ -8,21 +8,21 @@ use Rattle.kt_prog.specs.declared.programs.Arg.{Arg}
 use Rattle.kt_prog.specs.declared.programs.Expr.{Expr, Num}
 use Rattle.kt_prog.specs.declared.programs.Stmt.{Stmt}
 use Rattle.kt_prog.specs.declared.programs.What.{What, Let, Set, Store, Fold, If, For, Fork}
-use Rattle.kt_read.specs.declared.tokens.Mark.{Mark}
-use Rattle.kt_read.specs.declared.tokens.Mark.TheVariants as T
-use Rattle.kt_read.specs.declared.tokens.Symbol.{Symbol}
-use Rattle.kt_read.specs.declared.tokens.Tok.{Tok}
-use Rattle.kt_read.specs.Ahead.{Ahead, next_of, mark_of}
+use Rattle.kt_tokens.specs.declared.tokens.Mark.{Mark}
+use Rattle.kt_tokens.specs.declared.tokens.Mark.TheVariants as T
+use Rattle.kt_tokens.specs.declared.tokens.Symbol.{Symbol}
+use Rattle.kt_tokens.specs.declared.tokens.Tok.{Tok}
+use Rattle.kt_tokens.specs.Ahead.{Ahead, next_of, mark_of}
+use Rattle.kt_tokens.specs.Reading.{any, Follows, Reads, Sign, sign, a_name}
+use Rattle.kt_tokens.specs.Tokens.{◌·◌, named}
 use Rattle.kt_read.specs.ArgumentResiduals.{Forked}
 use Rattle.kt_read.specs.Expressions.{ReadsExpr}
-use Rattle.kt_read.specs.Follows.{after_expression, any, Follows}
-use Rattle.kt_read.specs.Reading.{Reads, Sign, sign, a_name}
+use Rattle.kt_read.specs.Follows.{after_expression}
 use Rattle.kt_read.specs.Residuals.{Then, Done, Closing, ExprThen, NameThen}
 use Rattle.kt_read.specs.StatementResiduals.{after_statement, LetStmt, IfStmt, ForStmt, ForkStmt, AfterElement, stores, folds, AfterStmtName, sets, at_index, NamedStmt, MoreStmts, closed, one_more_stmt}
 use Rattle.kt_read.specs.Statements.{ReadsOp, op_word, without_length, no_args, ReadsBlock, block, ReadsStmts, no_stmt, one_stmt, ReadsElse, no_else, else_block, ReadsStmt, let_stmt, set_stmt, store_stmt, fold_stmt, if_stmt, for_stmt, fork_stmt}
-use Rattle.kt_read.specs.Tokens.{◌·◌, named}
 use Rattle.kt_read.proofs.ExpressionSteps.{may_not, closing_completes, expression_completes, expression_then_completes}
-use Rattle.kt_read.proofs.Signs.{somewhere, done_completes, sign_completes}
+use Rattle.kt_read.proofs.Completing.{somewhere, done_completes, sign_completes}
 use Rattle.kt_read.proofs.Still.{Still, Completes, here, is, done, then_completes}
 
 abbrev pub stmt : Place → What → Stmt

@@ -4,14 +4,14 @@ use Rattle.kt_law.specs.declared.places.Place.{Place}
 use Rattle.kt_prog.specs.declared.programs.Arg.{Arg}
 use Rattle.kt_prog.specs.declared.programs.ArgWhat.TheVariants.{Value, Span}
 use Rattle.kt_prog.specs.declared.programs.Expr.{Expr, Elem}
-use Rattle.kt_read.specs.declared.tokens.Mark.TheVariants as T
-use Rattle.kt_read.specs.declared.tokens.Symbol.{Symbol}
-use Rattle.kt_read.specs.declared.tokens.Symbol.TheVariants as S
-use Rattle.kt_read.specs.declared.tokens.Tok.{Tok}
+use Rattle.kt_tokens.specs.declared.tokens.Mark.TheVariants as T
+use Rattle.kt_tokens.specs.declared.tokens.Symbol.{Symbol}
+use Rattle.kt_tokens.specs.declared.tokens.Symbol.TheVariants as S
+use Rattle.kt_tokens.specs.declared.tokens.Tok.{Tok}
+use Rattle.kt_tokens.specs.Tokens.{◌·◌}
 use Rattle.kt_read.specs.Expressions.{ReadsExpr}
 use Rattle.kt_read.specs.Residuals.{Then, AfterName, AfterAtom}
 use Rattle.kt_read.specs.Statements.{ReadsArg, ReadsForked, ReadsMaybeArgs}
-use Rattle.kt_read.specs.Tokens.{◌·◌}
 
 -- an argument behind `NAME "[" expr`
 pub data AfterIndex (n : List ℕ) (p : Place) (i : Expr) : Arg → List Tok → List Tok → Type 0 where

@@ -11,18 +11,18 @@ use Rattle.kt_prog.specs.declared.programs.Param.{Param}
 use Rattle.kt_prog.specs.declared.programs.Sort.{Sort}
 use Rattle.kt_prog.specs.declared.programs.Sort.TheVariants.{Int, One, Many}
 use Rattle.kt_prog.specs.declared.programs.Task.{Task}
+use Rattle.kt_tokens.specs.declared.tokens.Mark.TheVariants as T
+use Rattle.kt_tokens.specs.declared.tokens.Symbol.{Symbol}
+use Rattle.kt_tokens.specs.declared.tokens.Symbol.TheVariants as S
+use Rattle.kt_tokens.specs.declared.tokens.Tok.{Tok}
+use Rattle.kt_tokens.specs.Reading.{Sign, AName, AWord}
+use Rattle.kt_tokens.specs.Tokens.{◌·◌}
 use Rattle.kt_read.specs.declared.reader.declarations.Declared.{Declared}
 use Rattle.kt_read.specs.declared.reader.declarations.Declared.TheVariants as D
-use Rattle.kt_read.specs.declared.tokens.Mark.TheVariants as T
-use Rattle.kt_read.specs.declared.tokens.Symbol.{Symbol}
-use Rattle.kt_read.specs.declared.tokens.Symbol.TheVariants as S
-use Rattle.kt_read.specs.declared.tokens.Tok.{Tok}
 use Rattle.kt_read.specs.Operators.{direct_of}
 use Rattle.kt_read.specs.Programs.{ReadsSize, ReadsFamily, ReadsDirect, ReadsPostponed, ReadsParams, ReadsMaybeParams, ReadsTask, ReadsMain}
-use Rattle.kt_read.specs.Reading.{Sign, AName, AWord}
 use Rattle.kt_read.specs.Residuals.{Then, Done}
 use Rattle.kt_read.specs.Statements.{ReadsOp, ReadsBlock}
-use Rattle.kt_read.specs.Tokens.{◌·◌}
 
 -- ---- what may follow
 

@@ -1,9 +1,8 @@
 -- Which tokens may follow a part: none that would carry it on.
-use Rattle.std.specs.Prelude.{Bool, true, false, List, [], ◌∷◌}
-use Rattle.kt_read.specs.declared.tokens.Mark.TheVariants as T
-use Rattle.kt_read.specs.declared.tokens.Symbol.{Symbol}
-use Rattle.kt_read.specs.declared.tokens.Symbol.TheVariants as S
-use Rattle.kt_read.specs.declared.tokens.Tok.{Tok}
+use Rattle.std.specs.Prelude.{Bool, true, false}
+use Rattle.kt_tokens.specs.declared.tokens.Mark.TheVariants as T
+use Rattle.kt_tokens.specs.declared.tokens.Symbol.{Symbol}
+use Rattle.kt_tokens.specs.declared.tokens.Symbol.TheVariants as S
 
 abbrev pub after_atom : Symbol → Bool
 after_atom (S.Mark T.SquareOpen) = false
@@ -43,12 +42,3 @@ after_expression (S.Mark T.Le) = false
 after_expression (S.Mark T.Gt) = false
 after_expression (S.Mark T.Ge) = false
 after_expression _ = true
-
--- anything may follow
-abbrev pub any : Symbol → Bool
-any _ = true
-
--- the first of these tokens, if there is one, carries nothing on
-abbrev pub Follows : (Symbol → Bool) → List Tok → Type 0
-Follows may [] = Unit {0}
-Follows may (t ∷ ts) = elim (may t.symbol) [ true ↦ Unit {0} | false ↦ ⊥ ]

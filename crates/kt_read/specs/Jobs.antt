@@ -1,19 +1,20 @@
 -- Which bytes are a job, and where the reader stops at others.
-use Rattle.std.specs.Prelude.{◌≡◌, ℕ, zero, suc, ◌+◌, ◌≤◌, List, [], ◌∷◌, ◌++◌, length, Ok, Err, ◌⊎◌}
+use Rattle.std.specs.Prelude.{◌≡◌, ℕ, ◌+◌, ◌≤◌, List, [], ◌∷◌, ◌++◌, length, Ok, Err, ◌⊎◌}
 use Rattle.kt_law.specs.declared.limits.TheConstants.{BRACKETS, EXPRESSION_TOKENS}
 use Rattle.kt_law.specs.declared.places.P.TheVariants.{P4, P14}
 use Rattle.kt_law.specs.declared.places.Refusal.{Refusal}
 use Rattle.kt_prog.specs.declared.programs.Program.{Program}
 use Rattle.kt_text.specs.declared.tokens.Token.{Token}
 use Rattle.kt_text.specs.Tokens.{Lexes, next_token}
-use Rattle.kt_read.specs.declared.tokens.Mark.TheVariants as T
-use Rattle.kt_read.specs.declared.tokens.Symbol.{Symbol}
-use Rattle.kt_read.specs.declared.tokens.Symbol.TheVariants as S
-use Rattle.kt_read.specs.declared.tokens.Tok.{Tok}
+use Rattle.kt_tokens.specs.declared.tokens.Mark.TheVariants as T
+use Rattle.kt_tokens.specs.declared.tokens.Symbol.{Symbol}
+use Rattle.kt_tokens.specs.declared.tokens.Symbol.TheVariants as S
+use Rattle.kt_tokens.specs.declared.tokens.Tok.{Tok}
+use Rattle.kt_tokens.specs.Gauge.{open_behind}
+use Rattle.kt_tokens.specs.Words.{tok_of, toks_of}
 use Rattle.kt_read.specs.Outermost.{OuterProgram}
 use Rattle.kt_read.specs.Programs.{ReadsProgram}
 use Rattle.kt_read.specs.Texts.{IsText}
-use Rattle.kt_read.specs.Words.{tok_of, toks_of}
 
 -- some text of the grammar begins with these tokens
 pub record IsPrefix (toks : List Tok) : Type 0 where
@@ -27,20 +28,6 @@ IsOpening (S.Mark T.BraceOpen) = Unit {0}
 IsOpening (S.Mark T.ParenOpen) = Unit {0}
 IsOpening (S.Mark T.SquareOpen) = Unit {0}
 IsOpening _ = ⊥
-
-abbrev pub less_one : ℕ → ℕ
-less_one zero = zero
-less_one (suc n) = n
-
--- how many brackets are open behind a token
-abbrev pub open_behind : ℕ → Symbol → ℕ
-open_behind n (S.Mark T.BraceOpen) = suc n
-open_behind n (S.Mark T.ParenOpen) = suc n
-open_behind n (S.Mark T.SquareOpen) = suc n
-open_behind n (S.Mark T.BraceClose) = less_one n
-open_behind n (S.Mark T.ParenClose) = less_one n
-open_behind n (S.Mark T.SquareClose) = less_one n
-open_behind n _ = n
 
 -- how many are open behind these tokens, where n were open before
 abbrev pub opened : ℕ → List Tok → ℕ

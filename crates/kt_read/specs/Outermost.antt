@@ -10,9 +10,9 @@ use Rattle.kt_prog.specs.declared.programs.Main.{Main}
 use Rattle.kt_prog.specs.declared.programs.Param.{Param}
 use Rattle.kt_prog.specs.declared.programs.Stmt.{Stmt}
 use Rattle.kt_prog.specs.declared.programs.Task.{Task}
-use Rattle.kt_read.specs.declared.tokens.Mark.TheVariants as T
-use Rattle.kt_read.specs.declared.tokens.Tok.{Tok}
-use Rattle.kt_read.specs.Tokens.{◌·◌, named}
+use Rattle.kt_tokens.specs.declared.tokens.Mark.TheVariants as T
+use Rattle.kt_tokens.specs.declared.tokens.Tok.{Tok}
+use Rattle.kt_tokens.specs.Tokens.{◌·◌, named}
 use Rattle.kt_read.specs.Expressions.{ReadsExpr}
 use Rattle.kt_read.specs.Statements.{ReadsOp, ReadsArg, ReadsBlock, ReadsStmts}
 use Rattle.kt_read.specs.Programs.{ReadsFamily, ReadsMaybeParams, ReadsTask, ReadsMain}

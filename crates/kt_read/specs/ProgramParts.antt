@@ -1,10 +1,10 @@
 -- A program of which some declarations were read.
 use Rattle.std.specs.Prelude.{◌≡◌, List, [], ◌∷◌, ◌++◌}
 use Rattle.kt_prog.specs.declared.programs.Program.{Program}
+use Rattle.kt_tokens.specs.declared.tokens.Tok.{Tok}
 use Rattle.kt_read.specs.declared.reader.declarations.Declared.{Declared}
 use Rattle.kt_read.specs.declared.reader.declarations.Declared.TheVariants as D
 use Rattle.kt_read.specs.declared.reader.programs.Gathered.{Gathered}
-use Rattle.kt_read.specs.declared.tokens.Tok.{Tok}
 use Rattle.kt_read.specs.Programs.{ReadsProgram}
 
 abbrev pub nothing : Gathered

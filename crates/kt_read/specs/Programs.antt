@@ -11,9 +11,9 @@ use Rattle.kt_prog.specs.declared.programs.Program.{Program}
 use Rattle.kt_prog.specs.declared.programs.Sort.TheVariants.{Int, One, Many}
 use Rattle.kt_prog.specs.declared.programs.Stmt.{Stmt}
 use Rattle.kt_prog.specs.declared.programs.Task.{Task}
-use Rattle.kt_read.specs.declared.tokens.Mark.TheVariants as T
-use Rattle.kt_read.specs.declared.tokens.Tok.{Tok}
-use Rattle.kt_read.specs.Tokens.{◌·◌, named, numbered}
+use Rattle.kt_tokens.specs.declared.tokens.Mark.TheVariants as T
+use Rattle.kt_tokens.specs.declared.tokens.Tok.{Tok}
+use Rattle.kt_tokens.specs.Tokens.{◌·◌, named, numbered}
 use Rattle.kt_read.specs.Operators.{direct_of, postponed_of}
 use Rattle.kt_read.specs.Statements.{ReadsOp, ReadsBlock}
 

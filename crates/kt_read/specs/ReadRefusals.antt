@@ -3,9 +3,9 @@ use Rattle.std.specs.Prelude.{ℕ, List, Option, Some, None}
 use Rattle.kt_law.specs.declared.places.P.TheVariants.{P4}
 use Rattle.kt_law.specs.declared.places.Refusal.{Refusal}
 use Rattle.kt_text.specs.Tokens.{next_token}
+use Rattle.kt_tokens.specs.Ahead.{Ahead, next_of, refusal_in}
 use Rattle.kt_read.specs.declared.reader.ReadRefusal.{ReadRefusal}
 use Rattle.kt_read.specs.declared.reader.ReadRefusal.TheVariants.{Refused, NoMemory}
-use Rattle.kt_read.specs.Ahead.{Ahead, next_of, refusal_in}
 use Rattle.kt_read.specs.Jobs.{IsUnread}
 
 abbrev pub IsReadRefusal : List ℕ → ReadRefusal → Type 0

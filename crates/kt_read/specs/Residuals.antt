@@ -3,13 +3,13 @@ use Rattle.std.specs.Prelude.{◌≡◌, ℕ, List, ◌∷◌, Some}
 use Rattle.kt_law.specs.declared.places.Place.{Place}
 use Rattle.kt_law.specs.declared.operators.BinOp.{BinOp}
 use Rattle.kt_prog.specs.declared.programs.Expr.{Expr, Var, Elem, Bin}
-use Rattle.kt_read.specs.declared.tokens.Mark.{Mark}
-use Rattle.kt_read.specs.declared.tokens.Mark.TheVariants as T
-use Rattle.kt_read.specs.declared.tokens.Tok.{Tok}
+use Rattle.kt_tokens.specs.declared.tokens.Mark.{Mark}
+use Rattle.kt_tokens.specs.declared.tokens.Mark.TheVariants as T
+use Rattle.kt_tokens.specs.declared.tokens.Tok.{Tok}
+use Rattle.kt_tokens.specs.Reading.{Sign, AName}
+use Rattle.kt_tokens.specs.Tokens.{◌·◌}
 use Rattle.kt_read.specs.Expressions.{ReadsExpr, ReadsSum, ReadsTerms, ReadsFactors}
 use Rattle.kt_read.specs.Operators.{comparison_of, function_of}
-use Rattle.kt_read.specs.Reading.{Sign, AName}
-use Rattle.kt_read.specs.Tokens.{◌·◌}
 
 -- an X, and then what its value asks for
 abbrev pub Then : {A B : Type 0} → (B → List Tok → List Tok → Type 0) → (B → A → List Tok → List Tok → Type 0) → A → List Tok → List Tok → Type 0

@@ -5,16 +5,16 @@ use Rattle.kt_law.specs.declared.places.Place.{Place}
 use Rattle.kt_prog.specs.declared.programs.Expr.{Expr}
 use Rattle.kt_prog.specs.declared.programs.Stmt.{Stmt}
 use Rattle.kt_prog.specs.declared.programs.What.{Let, Set, Store, Fold, If, For, Fork}
-use Rattle.kt_read.specs.declared.tokens.Mark.TheVariants as T
-use Rattle.kt_read.specs.declared.tokens.Symbol.{Symbol}
-use Rattle.kt_read.specs.declared.tokens.Symbol.TheVariants as S
-use Rattle.kt_read.specs.declared.tokens.Tok.{Tok}
+use Rattle.kt_tokens.specs.declared.tokens.Mark.TheVariants as T
+use Rattle.kt_tokens.specs.declared.tokens.Symbol.{Symbol}
+use Rattle.kt_tokens.specs.declared.tokens.Symbol.TheVariants as S
+use Rattle.kt_tokens.specs.declared.tokens.Tok.{Tok}
+use Rattle.kt_tokens.specs.Reading.{Sign, AName}
+use Rattle.kt_tokens.specs.Tokens.{◌·◌}
 use Rattle.kt_read.specs.ArgumentResiduals.{Forked}
 use Rattle.kt_read.specs.Expressions.{ReadsExpr}
-use Rattle.kt_read.specs.Reading.{Sign, AName}
 use Rattle.kt_read.specs.Residuals.{Then, Done, Closing, ExprThen, NameThen}
 use Rattle.kt_read.specs.Statements.{ReadsBlock, ReadsElse, ReadsOp, ReadsStmt}
-use Rattle.kt_read.specs.Tokens.{◌·◌}
 
 -- an `else` would carry on an `if`
 abbrev pub after_statement : Symbol → Bool

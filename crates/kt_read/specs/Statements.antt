@@ -7,9 +7,9 @@ use Rattle.kt_prog.specs.declared.programs.ArgWhat.TheVariants.{Value, Span}
 use Rattle.kt_prog.specs.declared.programs.Expr.{Expr}
 use Rattle.kt_prog.specs.declared.programs.Stmt.{Stmt}
 use Rattle.kt_prog.specs.declared.programs.What.{Let, Set, Store, Fold, If, For, Fork}
-use Rattle.kt_read.specs.declared.tokens.Mark.TheVariants as T
-use Rattle.kt_read.specs.declared.tokens.Tok.{Tok}
-use Rattle.kt_read.specs.Tokens.{◌·◌, named}
+use Rattle.kt_tokens.specs.declared.tokens.Mark.TheVariants as T
+use Rattle.kt_tokens.specs.declared.tokens.Tok.{Tok}
+use Rattle.kt_tokens.specs.Tokens.{◌·◌, named}
 use Rattle.kt_read.specs.Operators.{op_of}
 use Rattle.kt_read.specs.Expressions.{ReadsExpr}
 

@@ -1,7 +1,7 @@
 // What a fork hands on: the length of a loop, and the arguments.
+ghost use Rattle.kt_tokens.specs.Reading.{Answers};
 ghost use Rattle.kt_read.specs.ArgumentResiduals.{AfterArgName, AfterFirst, AfterSquare, Forked, MoreArgs, after_arguments};
 ghost use Rattle.kt_read.specs.Follows.{after_expression};
-ghost use Rattle.kt_read.specs.Reading.{Answers};
 ghost use Rattle.kt_read.specs.Statements.{ReadsArg, ReadsMaybeArgs};
 ghost use Rattle.std.specs.Prelude.{[], ◌∷◌};
 
@@ -9,10 +9,9 @@ use crate::reader::expressions::{
     after_name, element, expression, expression_behind, expression_then,
 };
 use crate::reader::memory::add;
-use crate::source::{Source, Unread};
-use crate::tokens::{Mark, Symbol};
 use kt_law::Place;
 use kt_prog::{Arg, ArgWhat, Expr, Name};
+use kt_tokens::{Mark, Source, Symbol, Unread};
 use sqlite_items::Items;
 use std::alloc::Global;
 

@@ -1,17 +1,15 @@
 // Declarations.
 ghost use Rattle.std.specs.Prelude.{◌≡◌, None, Option, Some};
 ghost use Rattle.kt_prog.specs.declared.programs.Index.{Index};
+ghost use Rattle.kt_tokens.specs.Reading.{any, Answers};
 ghost use Rattle.kt_read.specs.DeclarationParts.{LoopOf, Outset, ReadsDeclaration, Sized, TaskOf, not_square, not_word};
-ghost use Rattle.kt_read.specs.Follows.{any};
 ghost use Rattle.kt_read.specs.Programs.{ReadsFamily, ReadsMain, ReadsMaybe};
-ghost use Rattle.kt_read.specs.Reading.{Answers};
 
 use crate::reader::params::params;
 use crate::reader::statements::block;
-use crate::source::{Source, Unread};
-use crate::tokens::Mark;
 use kt_law::Place;
 use kt_prog::{Family, Index, Main, Name, Stmt, Task};
+use kt_tokens::{Mark, Source, Unread};
 use std::alloc::Global;
 
 /// A declaration. A loop is a task with an index.

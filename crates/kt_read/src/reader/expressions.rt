@@ -1,20 +1,19 @@
 // Expressions by descent, a function for each level.
 ghost use Rattle.std.specs.Prelude.{◌≡◌, MatchResult, true};
 ghost use Rattle.kt_prog.specs.declared.programs.Expr.{Bin, Elem};
-ghost use Rattle.kt_read.specs.declared.source.Unread.TheVariants.{NoMemory};
-ghost use Rattle.kt_read.specs.declared.tokens.Symbol.TheVariants as S;
-ghost use Rattle.kt_read.specs.Ahead.{next_of};
+ghost use Rattle.kt_tokens.specs.declared.source.Unread.TheVariants.{NoMemory};
+ghost use Rattle.kt_tokens.specs.declared.tokens.Symbol.TheVariants as S;
+ghost use Rattle.kt_tokens.specs.Ahead.{next_of};
+ghost use Rattle.kt_tokens.specs.Reading.{any, Answers};
 ghost use Rattle.kt_read.specs.Expressions.{ReadsAtom, ReadsExpr, ReadsFactors, ReadsProduct, ReadsSum, ReadsTerms};
-ghost use Rattle.kt_read.specs.Follows.{after_atom, after_expression, after_product, after_sum, any};
+ghost use Rattle.kt_read.specs.Follows.{after_atom, after_expression, after_product, after_sum};
 ghost use Rattle.kt_read.specs.Operators.{additive_of, comparison_of, function_of, multiplicative_of};
-ghost use Rattle.kt_read.specs.Reading.{Answers};
 ghost use Rattle.kt_read.specs.Residuals.{AfterAtom, AfterName, AfterSum, ExprThen};
 
 use crate::reader::memory::boxed;
-use crate::source::{Source, Unread};
-use crate::tokens::{Mark, Symbol};
 use kt_law::{BinOp, Place};
 use kt_prog::{Expr, Name};
+use kt_tokens::{Mark, Source, Symbol, Unread};
 use sqlite_items::Boxed;
 use std::alloc::Global;
 

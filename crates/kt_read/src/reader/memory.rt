@@ -1,27 +1,11 @@
 // What is read is put on the heap. Want of memory ends the reading.
 ghost use Rattle.std.specs.Prelude.{◌≡◌, ◌≤◌, [], ◌∷◌, ◌++◌, drop, IfOk, length, MatchResult, OnOk, take};
-ghost use Rattle.kt_read.specs.declared.source.Unread.TheVariants.{NoMemory};
+ghost use Rattle.kt_tokens.specs.declared.source.Unread.TheVariants.{NoMemory};
 
-use crate::source::Unread;
+use kt_tokens::Unread;
 use sqlite_items::Boxed;
-use std::alloc::{AllocError, AllocFailed, Global};
+use std::alloc::{AllocError, Global};
 use std::mem;
-
-impl From<AllocError> for Unread {
-    ghost from_gives = { λ _ why. why ≡ NoMemory };
-
-    fn from(_: AllocError) -> Self {
-        Unread::NoMemory
-    }
-}
-
-impl<T: Drop> From<AllocFailed<T>> for Unread {
-    ghost from_gives = { λ _ why. why ≡ NoMemory };
-
-    fn from(_: AllocFailed<T>) -> Self {
-        Unread::NoMemory
-    }
-}
 
 /// Puts a part on the heap as soon as it is read, so that the readers hand on no more than where it is.
 pub(crate) fn boxed<T: Drop>(alloc: Global, part: T) -> Result<Boxed<T>, Unread>

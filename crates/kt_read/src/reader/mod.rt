@@ -1,6 +1,6 @@
 //! The reader of the whole language.
 ghost use Rattle.std.specs.Prelude.{◌≡◌, ◌<◌, ◌≤◌, length, IfErr, IfOk};
-ghost use Rattle.kt_read.specs.Ahead.{next_of};
+ghost use Rattle.kt_tokens.specs.Ahead.{next_of};
 ghost use Rattle.kt_read.specs.Jobs.{IsJob};
 ghost use Rattle.kt_read.specs.ReadRefusals.{IsReadRefusal, refused_at};
 
@@ -16,9 +16,9 @@ mod statements;
 mod tests;
 
 use crate::reader::programs::program;
-use crate::source::{Source, Unread};
 use kt_law::{P, Refusal};
 use kt_prog::Program;
+use kt_tokens::{Source, Unread};
 use std::alloc::Global;
 
 /// Why no program was read.

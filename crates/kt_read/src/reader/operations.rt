@@ -1,17 +1,15 @@
 // Words that name an operation or a mode.
 ghost use Rattle.std.specs.Prelude.{◌≡◌};
-ghost use Rattle.kt_read.specs.Ahead.{next_of};
+ghost use Rattle.kt_tokens.specs.Ahead.{next_of};
+ghost use Rattle.kt_tokens.specs.Reading.{any, Answers};
 ghost use Rattle.kt_read.specs.DeclarationParts.{Bracketed, Placed, named_in};
-ghost use Rattle.kt_read.specs.Follows.{any};
 ghost use Rattle.kt_read.specs.Operators.{direct_of, op_of, postponed_of};
 ghost use Rattle.kt_read.specs.Programs.{ReadsDirect, ReadsPostponed};
-ghost use Rattle.kt_read.specs.Reading.{Answers};
 ghost use Rattle.kt_read.specs.Statements.{ReadsOp};
 
-use crate::source::{Source, Unread};
-use crate::tokens::{Mark, Symbol, Word};
 use kt_law::{Mode, Op, Place};
 use kt_prog::Name;
+use kt_tokens::{Mark, Source, Symbol, Unread, Word};
 
 /// The operation of this name.
 #[tactic(auto, unfolding(crate::specs::Operators::op_of))]

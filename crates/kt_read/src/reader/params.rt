@@ -1,16 +1,14 @@
 // Parameters of tasks and loops.
 ghost use Rattle.std.specs.Prelude.{◌≡◌, codes};
+ghost use Rattle.kt_tokens.specs.Ahead.{next_of};
+ghost use Rattle.kt_tokens.specs.Reading.{any, Answers};
 ghost use Rattle.kt_read.specs.DeclarationParts.{DirectParam, IntParam, PostponedParam, Squares, begins_direct, closing, not_square, one_or_many};
-ghost use Rattle.kt_read.specs.Ahead.{next_of};
-ghost use Rattle.kt_read.specs.Follows.{any};
 ghost use Rattle.kt_read.specs.Programs.{ReadsMaybeParams, ReadsParam};
-ghost use Rattle.kt_read.specs.Reading.{Answers};
 
 use crate::reader::operations::{direct, next_direct, postponed};
-use crate::source::{Source, Unread};
-use crate::tokens::Mark;
 use kt_law::Mode;
 use kt_prog::{Param, Sort};
+use kt_tokens::{Mark, Source, Unread};
 use sqlite_items::Items;
 use std::alloc::Global;
 

@@ -1,14 +1,12 @@
 // Whole programs.
 ghost use Rattle.std.specs.Prelude.{◌≡◌, OnOk};
-ghost use Rattle.kt_read.specs.Follows.{any};
+ghost use Rattle.kt_tokens.specs.Reading.{any, Answers};
 ghost use Rattle.kt_read.specs.ProgramParts.{added, nothing};
 ghost use Rattle.kt_read.specs.Programs.{ReadsProgram};
-ghost use Rattle.kt_read.specs.Reading.{Answers};
 
 use crate::reader::declarations::{Declared, declaration};
-use crate::source::{Source, Unread};
-use crate::tokens::Mark;
 use kt_prog::{Family, Main, Program, Task};
+use kt_tokens::{Mark, Source, Unread};
 use sqlite_items::Items;
 use std::alloc::{AllocError, Global};
 

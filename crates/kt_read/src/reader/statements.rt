@@ -1,8 +1,7 @@
 // Statements by descent. The first token tells which one it is, and what stands behind a name tells assignments apart.
 // Statements are large, so each is added to one list as soon as it is read, and at its end a block takes its own out of it.
 ghost use Rattle.std.specs.Prelude.{◌≡◌, OnOk};
-ghost use Rattle.kt_read.specs.Follows.{any};
-ghost use Rattle.kt_read.specs.Reading.{Adds, Answers};
+ghost use Rattle.kt_tokens.specs.Reading.{any, Adds, Answers};
 ghost use Rattle.kt_read.specs.Residuals.{NameThen};
 ghost use Rattle.kt_read.specs.StatementResiduals.{AfterElement, AfterStmtName, ForStmt, ForkStmt, IfStmt, LetStmt, NamedStmt, after_statement};
 ghost use Rattle.kt_read.specs.Statements.{ReadsBlock, ReadsElse, ReadsStmt};
@@ -11,10 +10,9 @@ use crate::reader::arguments::forked;
 use crate::reader::expressions::{expression, expression_then};
 use crate::reader::memory::{add, taken};
 use crate::reader::operations::operation;
-use crate::source::{Source, Unread};
-use crate::tokens::Mark;
 use kt_law::Place;
 use kt_prog::{Expr, Name, Stmt, What};
+use kt_tokens::{Mark, Source, Unread};
 use sqlite_items::Items;
 use std::alloc::Global;
 

@@ -1,6 +1,6 @@
 use Rattle.std.proofs.Common.{ℕ, ◌≤◌, List, length, sym, subst}
 use Rattle.kt_law.specs.declared.places.Refusal.{Refusal}
-use Rattle.kt_read.specs.declared.source.Unread.TheVariants as U
+use Rattle.kt_tokens.specs.declared.source.Unread.TheVariants as U
 use Rattle.kt_read.specs.Jobs.{IsJob, IsUnread}
 use Rattle.kt_read.proofs.ReadTexts.{from_start, job_deep, job_read, job_refused, same_bytes}
 use Rattle.kt_read.proofs.reader.read_program.Goals as goal

@@ -1,7 +1,7 @@
 use Rattle.std.proofs.lemmas.Result.{err_from_is_err_and}
 use Rattle.kt_read.specs.Follows.{after_atom, after_expression}
 use Rattle.kt_read.proofs.ArgumentSteps.{valued, valued_completes, valued_follow, open_here, square_completes, in_value_here, in_value_follow}
-use Rattle.kt_read.proofs.Signs.{done_completes}
+use Rattle.kt_read.proofs.Completing.{done_completes}
 use Rattle.kt_read.proofs.Still.{next, done, fails, answers, next_any, fails_any}
 use Rattle.kt_read.proofs.reader.arguments.argument_behind_name.Goals as goal
 

@@ -1,11 +1,11 @@
 use Rattle.std.proofs.lemmas.Result.{err_from_is_err_and}
 use Rattle.std.proofs.Common.{subst, Err}
-use Rattle.kt_read.specs.Reading.{Answers, Reads}
+use Rattle.kt_tokens.specs.Reading.{Answers, Reads}
 use Rattle.kt_read.specs.Residuals.{AfterAtom}
 use Rattle.kt_read.specs.Follows.{after_expression}
 use Rattle.kt_prog.specs.declared.programs.Expr.{Elem}
 use Rattle.kt_read.proofs.ArgumentSteps.{valued, spanned, index_follow, index_completes, span_left, span_completes, element_left, valued_completes, valued_follow}
-use Rattle.kt_read.proofs.Signs.{done_completes}
+use Rattle.kt_read.proofs.Completing.{done_completes}
 use Rattle.kt_read.proofs.Still.{here, next, done, fails, next_any, fails_any}
 use Rattle.kt_read.proofs.reader.arguments.argument_in_square.Goals as goal
 

@@ -2,7 +2,7 @@ use Rattle.std.proofs.Common.{Some, None}
 use Rattle.std.proofs.lemmas.Result.{err_from_is_err_and}
 use Rattle.kt_read.specs.ArgumentResiduals.{after_arguments}
 use Rattle.kt_read.proofs.ArgumentSteps.{forked_of, all_here, args_follow, length_here, length_completes, span_refused}
-use Rattle.kt_read.proofs.Signs.{done_completes}
+use Rattle.kt_read.proofs.Completing.{done_completes}
 use Rattle.kt_read.proofs.Still.{next, done, fails, next_any, fails_any}
 use Rattle.kt_read.proofs.reader.arguments.forked_behind.Goals as goal
 

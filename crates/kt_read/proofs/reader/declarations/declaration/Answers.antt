@@ -1,7 +1,7 @@
 use Rattle.std.proofs.lemmas.Result.{err_from_is_err_and}
 use Rattle.kt_read.specs.declared.reader.declarations.Declared.TheVariants as D
 use Rattle.kt_read.proofs.DeclarationSteps.{family_alone, loop_alone, main_alone, task_alone}
-use Rattle.kt_read.proofs.Signs.{done_completes}
+use Rattle.kt_read.proofs.Completing.{done_completes}
 use Rattle.kt_read.proofs.Still.{done, fails_any, next_any}
 use Rattle.kt_read.proofs.reader.declarations.declaration.Goals as goal
 

@@ -2,7 +2,7 @@ use Rattle.std.proofs.lemmas.Result.{err_from_is_err_and}
 use Rattle.std.proofs.Common.{codes}
 use Rattle.kt_read.specs.DeclarationParts.{not_square, not_word}
 use Rattle.kt_read.proofs.DeclarationSteps.{family_at, family_elements_end, family_end, family_here, family_input_end, family_name_end, family_of_end, family_output_end, family_size_end, input_follows, output_follows, size_follows}
-use Rattle.kt_read.proofs.Signs.{done_completes}
+use Rattle.kt_read.proofs.Completing.{done_completes}
 use Rattle.kt_read.proofs.Still.{done, fails, fails_any, next, next_any}
 use Rattle.kt_read.proofs.reader.declarations.family.Goals as goal
 

@@ -1,6 +1,6 @@
 use Rattle.std.proofs.lemmas.Result.{err_from_is_err_and}
+use Rattle.kt_tokens.specs.Reading.{any}
 use Rattle.kt_read.specs.DeclarationParts.{LoopOf}
-use Rattle.kt_read.specs.Follows.{any}
 use Rattle.kt_read.proofs.DeclarationSteps.{index_at, loop_index_end, loop_name_end, loop_open_end, loop_semicolon_end, outset_end}
 use Rattle.kt_read.proofs.Still.{answers, fails_any, here, next_any}
 use Rattle.kt_read.proofs.reader.declarations.loop_task.Goals as goal

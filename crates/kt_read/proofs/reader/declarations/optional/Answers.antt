@@ -1,7 +1,7 @@
 use Rattle.std.proofs.lemmas.Result.{err_from_is_err_and}
 use Rattle.std.proofs.Common.{true}
 use Rattle.kt_read.proofs.DeclarationSteps.{maybe_here, no_word_read}
-use Rattle.kt_read.proofs.Signs.{done_completes}
+use Rattle.kt_read.proofs.Completing.{done_completes}
 use Rattle.kt_read.proofs.Still.{done, fails_any, next_any}
 use Rattle.kt_read.proofs.reader.declarations.optional.Goals as goal
 

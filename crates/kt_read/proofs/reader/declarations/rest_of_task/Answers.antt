@@ -1,7 +1,7 @@
 use Rattle.std.proofs.lemmas.Result.{err_from_is_err_and}
 use Rattle.kt_read.specs.DeclarationParts.{Outset, closing}
 use Rattle.kt_read.proofs.DeclarationSteps.{params_follow, task_at, task_body_end, task_close_end}
-use Rattle.kt_read.proofs.Signs.{done_completes}
+use Rattle.kt_read.proofs.Completing.{done_completes}
 use Rattle.kt_read.proofs.Still.{done, fails, fails_any, here, next, next_any}
 use Rattle.kt_read.proofs.reader.declarations.rest_of_task.Goals as goal
 

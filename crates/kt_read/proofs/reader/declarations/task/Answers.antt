@@ -1,6 +1,6 @@
 use Rattle.std.proofs.lemmas.Result.{err_from_is_err_and}
+use Rattle.kt_tokens.specs.Reading.{any}
 use Rattle.kt_read.specs.DeclarationParts.{TaskOf}
-use Rattle.kt_read.specs.Follows.{any}
 use Rattle.kt_read.proofs.DeclarationSteps.{outset_end, task_name_end, task_open_end}
 use Rattle.std.proofs.Common.{None}
 use Rattle.kt_read.proofs.Still.{answers, fails_any, here, next_any}

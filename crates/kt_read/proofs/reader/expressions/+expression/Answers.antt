@@ -1,16 +1,17 @@
 use Rattle.std.proofs.Common.{sym, ◌∙◌, refl, ap, arith, subst, Err}
 use Rattle.std.proofs.lemmas.Result.{err_from_is_err_and}
 use Rattle.kt_prog.specs.declared.programs.Expr.{Num, Elem, Bin}
-use Rattle.kt_read.specs.declared.tokens.Mark.TheVariants as T
-use Rattle.kt_read.specs.Follows.{after_atom, after_expression, after_product, after_sum, any}
+use Rattle.kt_tokens.specs.declared.tokens.Mark.TheVariants as T
+use Rattle.kt_tokens.specs.Reading.{any, Answers}
+use Rattle.kt_tokens.proofs.Moves.{Advanced}
+use Rattle.kt_read.specs.Follows.{after_atom, after_expression, after_product, after_sum}
 use Rattle.kt_read.specs.Expressions.{ReadsFactors}
-use Rattle.kt_read.specs.Reading.{Answers}
 use Rattle.kt_read.specs.Residuals.{Done, Closing}
 use Rattle.kt_read.proofs.ExpressionSteps.{closing_follows, closing_completes, expression_completes, expression_then_completes, terms_follow, sum_here, terms_step, terms_end, terms_go_on, terms_complete, factors_follow, product_here, factors_step, factors_end, factors_go_on, factors_complete, after_sum_follow, sums_follow, sums_complete, expression_here, atom_end, after_atom_follows, after_atom_completes, comparison_step, comparison_end, comparison_goes_on, after_sum_completes, compared_follows, number_here, name_here, group_here, after_name_completes, square_here, call_here, bare_reads, in_call_completes}
 use Rattle.kt_read.proofs.Operators.{additive_is_token, multiplicative_is_token, comparison_is_token}
 use Rattle.kt_read.proofs.Shrinking.{moved_left, advanced_falls, reads_left, sign_falls, name_falls}
-use Rattle.kt_read.proofs.Signs.{done_completes}
-use Rattle.kt_read.proofs.Still.{Advanced, here, next, done, fails, answers, made, deep_at, any_follows, next_any, fails_any}
+use Rattle.kt_read.proofs.Completing.{done_completes}
+use Rattle.kt_read.proofs.Still.{here, next, done, fails, answers, made, deep_at, any_follows, next_any, fails_any}
 use Rattle.kt_read.proofs.reader.expressions.+expression.Goals as goal
 
 pub after_name-returns-in_err-expect : goal.after_name-returns-in_err-expect

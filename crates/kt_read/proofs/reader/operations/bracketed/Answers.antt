@@ -1,7 +1,7 @@
 use Rattle.std.proofs.lemmas.Result.{err_from_is_err_and}
 use Rattle.kt_read.specs.DeclarationParts.{Bracketed}
 use Rattle.kt_read.proofs.OperationSteps.{close_completes, op_completes}
-use Rattle.kt_read.proofs.Signs.{done_completes}
+use Rattle.kt_read.proofs.Completing.{done_completes}
 use Rattle.kt_read.proofs.Still.{done, fails_any, here, next_any}
 use Rattle.kt_read.proofs.reader.operations.bracketed.Goals as goal
 

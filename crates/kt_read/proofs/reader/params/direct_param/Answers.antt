@@ -2,7 +2,7 @@ use Rattle.std.proofs.lemmas.Result.{err_from_is_err_and}
 use Rattle.kt_prog.specs.declared.programs.Sort.TheVariants.{One}
 use Rattle.kt_read.specs.DeclarationParts.{DirectParam, param_at}
 use Rattle.kt_read.proofs.ParamSteps.{direct_name_end}
-use Rattle.kt_read.proofs.Signs.{done_completes}
+use Rattle.kt_read.proofs.Completing.{done_completes}
 use Rattle.kt_read.proofs.Still.{done, fails_any, here, next_any}
 use Rattle.kt_read.proofs.reader.params.direct_param.Goals as goal
 

@@ -1,6 +1,6 @@
 use Rattle.std.proofs.Common.{sym, ◌∙◌}
+use Rattle.kt_tokens.specs.Reading.{any}
 use Rattle.kt_read.specs.DeclarationParts.{not_square}
-use Rattle.kt_read.specs.Follows.{any}
 use Rattle.kt_read.proofs.ParamSteps.{direct_here, int_here, postponed_here}
 use Rattle.kt_read.proofs.Still.{answers, any_follows}
 use Rattle.kt_read.proofs.reader.params.param.Goals as goal

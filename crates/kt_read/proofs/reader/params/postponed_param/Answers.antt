@@ -1,8 +1,7 @@
 use Rattle.std.proofs.lemmas.Result.{err_from_is_err_and}
-use Rattle.kt_read.specs.DeclarationParts.{PostponedParam}
+use Rattle.kt_read.specs.DeclarationParts.{PostponedParam, not_square}
 use Rattle.kt_read.proofs.ParamSteps.{many_end, postponed_name_end, postponed_squares_end}
 use Rattle.kt_read.proofs.Still.{done, fails, fails_any, here, next, next_any}
-use Rattle.kt_read.specs.DeclarationParts.{not_square}
 use Rattle.kt_read.proofs.OneTokens.{done_follows}
 use Rattle.kt_read.proofs.reader.params.postponed_param.Goals as goal
 

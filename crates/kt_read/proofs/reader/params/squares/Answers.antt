@@ -1,6 +1,6 @@
 use Rattle.std.proofs.lemmas.Result.{err_from_is_err_and}
 use Rattle.kt_read.proofs.ParamSteps.{no_squares_read, square_end, squares_here}
-use Rattle.kt_read.proofs.Signs.{done_completes}
+use Rattle.kt_read.proofs.Completing.{done_completes}
 use Rattle.kt_read.proofs.Still.{done, fails_any, next_any}
 use Rattle.std.proofs.Common.{true}
 use Rattle.kt_read.proofs.reader.params.squares.Goals as goal

@@ -3,7 +3,7 @@ use Rattle.kt_read.specs.ProgramParts.{added}
 use Rattle.kt_read.proofs.DeclarationSteps.{no_declaration}
 use Rattle.kt_read.proofs.ProgramSteps.{end_here, finished, further_here, program_completes, program_here}
 use Rattle.kt_read.proofs.Shrinking.{reads_falls}
-use Rattle.kt_read.proofs.Signs.{done_completes}
+use Rattle.kt_read.proofs.Completing.{done_completes}
 use Rattle.kt_read.proofs.Still.{done, fails_any, next_any}
 use Rattle.kt_read.proofs.reader.programs.program.Goals as goal
 

@@ -1,4 +1,4 @@
-use Rattle.kt_read.specs.Follows.{any}
+use Rattle.kt_tokens.specs.Reading.{any}
 use Rattle.kt_read.specs.ProgramParts.{ProgramLeft}
 use Rattle.kt_read.specs.Programs.{ReadsProgram}
 use Rattle.kt_read.proofs.Shrinking.{left}

@@ -1,14 +1,15 @@
 use Rattle.std.proofs.Common.{arith, [], ◌∷◌, ◌++◌, sym, subst, ◌∙◌}
 use Rattle.std.proofs.lemmas.List.{append-nil}
 use Rattle.std.proofs.lemmas.Result.{err_from_is_err_and}
-use Rattle.kt_read.specs.Follows.{after_expression, any}
+use Rattle.kt_tokens.specs.Reading.{any}
+use Rattle.kt_read.specs.Follows.{after_expression}
 use Rattle.kt_prog.specs.declared.programs.What.{If}
-use Rattle.kt_read.specs.Reading.{Reads}
+use Rattle.kt_tokens.specs.Reading.{Reads}
 use Rattle.kt_read.specs.StatementResiduals.{after_statement}
 use Rattle.kt_read.specs.Statements.{ReadsBlock}
 use Rattle.kt_read.proofs.StatementSteps.{stmt, done_follows, if_else_completes, if_blocks_complete, if_completes, block_follows, no_else_read, else_here, block_end, for_body_completes, for_end_completes, for_bounds_complete, for_completes, let_here, if_here, for_here, fork_here, NoWord, named_here, more_follow, no_tokens, block_here, more_complete, stmt_left, end_left, one_behind, begins_within, own_behind, others_before}
 use Rattle.kt_read.proofs.Shrinking.{reads_left, reads_falls, sign_falls}
-use Rattle.kt_read.proofs.Signs.{done_completes}
+use Rattle.kt_read.proofs.Completing.{done_completes}
 use Rattle.kt_read.proofs.Still.{here, next, done, fails, answers, adds, any_follows, next_any, fails_any}
 use Rattle.kt_read.proofs.reader.statements.+statement.Goals as goal
 

@@ -1,6 +1,6 @@
 use Rattle.std.proofs.Common.{◌≡◌, ◌+◌, ◌*◌, ◌<◌, List, ◌++◌}
 use Rattle.kt_prog.specs.declared.programs.Stmt.{Stmt}
-use Rattle.kt_read.specs.Follows.{any}
+use Rattle.kt_tokens.specs.Reading.{any}
 use Rattle.kt_read.specs.StatementResiduals.{MoreStmts}
 use Rattle.kt_read.specs.Statements.{ReadsBlock}
 use Rattle.kt_read.proofs.Shrinking.{left}

@@ -1,10 +1,10 @@
 use Rattle.std.proofs.Common.{refl}
 use Rattle.std.proofs.lemmas.Result.{err_from_is_err_and}
-use Rattle.kt_read.specs.declared.tokens.Mark.TheVariants as T
+use Rattle.kt_tokens.specs.declared.tokens.Mark.TheVariants as T
 use Rattle.kt_read.specs.ArgumentResiduals.{after_arguments}
 use Rattle.kt_read.proofs.StatementSteps.{fork_end_completes, fork_rest_completes, fork_completes}
 use Rattle.kt_read.proofs.ExpressionSteps.{sign_follows, closing_completes}
-use Rattle.kt_read.proofs.Signs.{done_completes}
+use Rattle.kt_read.proofs.Completing.{done_completes}
 use Rattle.kt_read.proofs.Still.{here, next, done, fails, next_any, fails_any}
 use Rattle.kt_read.proofs.reader.statements.fork_statement.Goals as goal
 

@@ -1,6 +1,6 @@
 use Rattle.std.proofs.lemmas.Result.{err_from_is_err_and}
 use Rattle.kt_read.proofs.StatementSteps.{let_value_completes, let_completes}
-use Rattle.kt_read.proofs.Signs.{done_completes}
+use Rattle.kt_read.proofs.Completing.{done_completes}
 use Rattle.kt_read.proofs.Still.{here, done, next_any, fails_any}
 use Rattle.kt_read.proofs.reader.statements.let_statement.Goals as goal
 

@@ -1,6 +1,6 @@
 use Rattle.std.proofs.lemmas.Result.{err_from_is_err_and}
 use Rattle.kt_read.proofs.ExpressionSteps.{closing_completes}
-use Rattle.kt_read.proofs.Signs.{done_completes}
+use Rattle.kt_read.proofs.Completing.{done_completes}
 use Rattle.kt_read.proofs.Still.{here, done, next_any, fails_any}
 use Rattle.kt_read.proofs.reader.statements.name_then.Goals as goal
 

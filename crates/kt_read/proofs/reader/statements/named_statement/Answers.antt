@@ -1,5 +1,5 @@
 use Rattle.std.proofs.lemmas.Result.{err_from_is_err_and}
-use Rattle.kt_read.specs.Follows.{any}
+use Rattle.kt_tokens.specs.Reading.{any}
 use Rattle.kt_read.proofs.StatementSteps.{stmt_name_completes}
 use Rattle.kt_read.proofs.Still.{here, adds, next_any, fails_any}
 use Rattle.kt_read.proofs.reader.statements.named_statement.Goals as goal

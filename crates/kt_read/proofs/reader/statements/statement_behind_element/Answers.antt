@@ -1,6 +1,6 @@
 use Rattle.std.proofs.lemmas.Result.{err_from_is_err_and}
 use Rattle.kt_read.proofs.StatementSteps.{store_here, store_completes, fold_here, fold_value_completes, fold_completes}
-use Rattle.kt_read.proofs.Signs.{done_completes}
+use Rattle.kt_read.proofs.Completing.{done_completes}
 use Rattle.kt_read.proofs.Still.{done, next_any, fails_any}
 use Rattle.kt_read.proofs.reader.statements.statement_behind_element.Goals as goal
 

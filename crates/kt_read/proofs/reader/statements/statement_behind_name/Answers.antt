@@ -1,7 +1,7 @@
 use Rattle.std.proofs.lemmas.Result.{err_from_is_err_and}
-use Rattle.kt_read.specs.Follows.{any}
+use Rattle.kt_tokens.specs.Reading.{any}
 use Rattle.kt_read.proofs.StatementSteps.{element_completes, set_here, set_completes, index_here, index_completes}
-use Rattle.kt_read.proofs.Signs.{done_completes}
+use Rattle.kt_read.proofs.Completing.{done_completes}
 use Rattle.kt_read.proofs.Still.{done, adds, next_any, fails_any}
 use Rattle.kt_read.proofs.reader.statements.statement_behind_name.Goals as goal
 
