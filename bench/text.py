@@ -90,39 +90,39 @@ def data():
     return "object A[256] of 4096 input output;\nmain {}\ndata\n" + numbers
 
 
-def seconds(program, path, word="check"):
-    best = None
-    for _ in range(3):
-        with open(path, "rb") as job:
-            start = time.perf_counter()
-            subprocess.run([program, word], stdin=job, stdout=subprocess.DEVNULL, check=False)
-            took = time.perf_counter() - start
-        best = took if best is None else min(best, took)
-    return best
+ROUNDS = 7
+
+
+def seconds(program, path, word):
+    with open(path, "rb") as job:
+        start = time.perf_counter()
+        subprocess.run([program, word], stdin=job, stdout=subprocess.DEVNULL, check=False)
+        return time.perf_counter() - start
+
+
+def measure(program, texts, word="check"):
+    """Of each text its name, its size in MB and the fastest of ROUNDS runs. The texts take turns, so that a slow minute of the machine falls on all."""
+    with tempfile.TemporaryDirectory() as folder:
+        paths = []
+        for name, text in texts:
+            path = pathlib.Path(folder, name)
+            path.write_text(text)
+            paths.append(path)
+        best = {path: min(times) for path, times in zip(paths, zip(*([seconds(program, path, word) for path in paths] for _ in range(ROUNDS))))}
+        for path in paths:
+            yield path.name, path.stat().st_size / 1e6, best[path]
 
 
 def main():
     program = sys.argv[1] if len(sys.argv) > 1 else str(TOP / "crates/kaapi/out/kaapi")
     for megabytes in (4, 8, 16, 32):
-        for name, text in jobs(megabytes * 1_000_000):
-            with tempfile.NamedTemporaryFile("w") as job:
-                job.write(text)
-                job.flush()
-                took = seconds(program, job.name)
-            print(f"{name:8} {len(text) / 1e6:5.1f} MB {took:7.2f} s {len(text) / 1e6 / took:7.1f} MB/s", flush=True)
+        for name, size, took in measure(program, jobs(megabytes * 1_000_000)):
+            print(f"{name:8} {size:5.1f} MB {took:7.2f} s {size / took:7.1f} MB/s", flush=True)
     for count in (20_000, 40_000, 80_000, 160_000, 320_000):
-        for name, text in many(count):
-            with tempfile.NamedTemporaryFile("w") as job:
-                job.write(text)
-                job.flush()
-                took = seconds(program, job.name)
-            print(f"{name:8} {count:7} {len(text) / 1e6:5.1f} MB {took:7.2f} s {len(text) / 1e6 / took:7.1f} MB/s", flush=True)
-    text = data()
-    with tempfile.NamedTemporaryFile("w") as job:
-        job.write(text)
-        job.flush()
-        took = seconds(program, job.name, "seq")
-    print(f"data     {len(text) / 1e6:5.1f} MB {took:7.2f} s {len(text) / 1e6 / took:7.1f} MB/s", flush=True)
+        for name, size, took in measure(program, many(count)):
+            print(f"{name:8} {count:7} {size:5.1f} MB {took:7.2f} s {size / took:7.1f} MB/s", flush=True)
+    for name, size, took in measure(program, [("data", data())], "seq"):
+        print(f"{name:8} {size:5.1f} MB {took:7.2f} s {size / took:7.1f} MB/s", flush=True)
 
 
 main()
