@@ -51,7 +51,7 @@ weighted_lane left row right at before room before_is j lt =
     ∙ ap (λ y. (y + 2 * get_or row (at + j) 0 + element_behind row right (at + j)) % 2 ^ 64) (before_lane left row at before before_is j lt)
 
 -- the last lane of that vector stands before the next one
-pub last_lane : (left : ℕ) (row : List ℕ) (at next : ℕ) → next ≡ at + 8 → get_or (chunk at 8 row) 7 0 ≡ element_before left row next
-last_lane left row at next is =
+pub last_lane : (left : ℕ) (line : List ℕ) (at next : ℕ) → next ≡ at + 8 → get_or (chunk at 8 line) 7 0 ≡ element_before left line next
+last_lane left line at next is =
     let place : suc (at + 7) ≡ next = omega arith in
-    get_or-chunk at 8 row 7 0 (omega arith) ∙ ap (element_before left row) place
+    get_or-chunk at 8 line 7 0 (omega arith) ∙ ap (element_before left line) place
