@@ -30,7 +30,7 @@ module _ (v : View) where
   pub value_elem : (name : List ℕ) (p : Place) (at : Expr) → value_of (λ w. w) (Elem name p at) v ≡ (do
     o ← object_in (λ w. w) (bound_of v.site v.locals name)
     i ← value_of (λ w. w) at v
-    fetch v.site.families v.line o i)
+    fetch v.site.widths v.line o i)
   value_elem name p at = ap (λ e. value_of (λ w. w) e v) (sym (rolls-Elem name p at)) ∙ ap (λ (f : ExprMeaning). f v) (fold-roll-Expr ExprMeaning (expr_step (λ w. w)) (E.Elem name p at))
 
   pub value_bin : (op : BinOp) (a b : Expr) → value_of (λ w. w) (Bin op a b) v ≡ (do

@@ -11,6 +11,7 @@ use Rattle.kt_prog.specs.declared.runs.Operation.{Operation}
 use Rattle.kt_prog.specs.declared.runs.Operation.TheVariants as O
 use Rattle.kt_body.specs.declared.ops.Ended.{Ended}
 use Rattle.kt_body.specs.declared.ops.Ended.TheVariants as E
+use Rattle.kt_prog.specs.Objects.{width_of}
 
 -- what the loads among the operations found
 abbrev pub answers_of : List Operation → List ℕ
@@ -24,7 +25,7 @@ IsCalled _ = Unit {0}
 
 -- the stores of 0 before a body
 abbrev pub zeroing : Program → CallTree → List Operation
-zeroing p call = trace [] (zero_all p.families call.accesses (λ _. Stop None)) []
+zeroing p call = trace [] (zero_all (width_of p.families) call.accesses (λ _. Stop None)) []
 
 module _ {S : Type 0} (at : S → Program → Job → List ℕ → ℕ → Type 0) (goes : S → Operation → S → Type 0) (halted : S → Type 0) where
   -- the operations, in order, took the object from x to y

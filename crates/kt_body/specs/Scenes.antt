@@ -6,12 +6,10 @@ use Rattle.kt_law.specs.declared.limits.TheConstants.{OBJECTS}
 use Rattle.kt_prog.specs.Bodies.{site_of}
 use Rattle.kt_prog.specs.Locals.{Site}
 use Rattle.kt_prog.specs.Lookups.{assigned, with_local}
-use Rattle.kt_prog.specs.Objects.{width_of}
 use Rattle.kt_prog.specs.Script.{Step, ◌>>=◌, ◌>>◌, give, stop, load, perform, tested}
 use Rattle.kt_prog.specs.Statements.{State, at_locals, view}
 use Rattle.kt_prog.specs.Values.{View, value_of, object_at}
 use Rattle.kt_prog.specs.declared.programs.Expr.{Expr}
-use Rattle.kt_prog.specs.declared.programs.Family.{Family}
 use Rattle.kt_prog.specs.declared.runs.Operation.{Operation}
 use Rattle.kt_prog.specs.declared.runs.Operation.TheVariants as O
 use Rattle.kt_prog.specs.declared.scope.Bound.{Bound}
@@ -66,15 +64,15 @@ operation_of W.Store object element v = O.Store object element v
 operation_of (W.Fold op) object element v = O.Fold object element op v
 
 -- an element is tested to be there, and loaded
-abbrev pub fetch : List Family → ℕ → ℕ → ℕ → Step ℕ
-fetch families line object i = do
-  tested (nat_lt i (width_of families object)) F2 line
+abbrev pub fetch : (ℕ → ℕ) → ℕ → ℕ → ℕ → Step ℕ
+fetch widths line object i = do
+  tested (nat_lt i (widths object)) F2 line
   load object i
 
 -- an element is tested to be there, and a value is written to it
-abbrev pub put : List Family → ℕ → Write → ℕ → ℕ → ℕ → Step (Unit {0})
-put families line write object i n = do
-  tested (nat_lt i (width_of families object)) F2 line
+abbrev pub put : (ℕ → ℕ) → ℕ → Write → ℕ → ℕ → ℕ → Step (Unit {0})
+put widths line write object i n = do
+  tested (nat_lt i (widths object)) F2 line
   perform object i (deed_of write n)
 
 -- the object, the index and the value of a write, and the write
@@ -83,7 +81,7 @@ written write name at e v = do
   o ← object_at (λ w. w) v name
   i ← value_of (λ w. w) at v
   n ← value_of (λ w. w) e v
-  put v.site.families v.line write o i n
+  put v.site.widths v.line write o i n
 
 -- a value for a new name
 abbrev pub bound_to : List ℕ → Expr → ℕ → Site → State → Step State

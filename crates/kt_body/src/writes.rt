@@ -2,6 +2,7 @@
 ghost use Rattle.kt_body.specs.Doing.{CanDo, Followed};
 ghost use Rattle.kt_body.specs.Moves.{Can, Ran};
 ghost use Rattle.kt_body.specs.Scenes.{fetch, operation_of, put};
+ghost use Rattle.kt_prog.specs.Objects.{width_of};
 
 use crate::ops::{Early, Got, Ops, Went};
 use crate::zero::width_at;
@@ -23,8 +24,8 @@ pub fn load_element<O: Ops>(
     i: u64,
     ops: &mut O,
 ) -> Result<u64, Early>
-    requires { Can O.at O.goes O.halted program.now ops.old (fetch program.now.families line object i) }
-    ensures { Ran O.at O.goes O.halted ops.old (fetch program.now.families line object i) ops.new result }
+    requires { Can O.at O.goes O.halted program.now ops.old (fetch (width_of program.now.families) line object i) }
+    ensures { Ran O.at O.goes O.halted ops.old (fetch (width_of program.now.families) line object i) ops.new result }
 {
     let width = width_at(program, object);
     if i >= u64::from(width) {
@@ -56,8 +57,8 @@ pub fn write_element<O: Ops>(
     value: u64,
     ops: &mut O,
 ) -> Result<(), Early>
-    requires { Can O.at O.goes O.halted program.now ops.old (put program.now.families line write object i value) }
-    ensures { Ran O.at O.goes O.halted ops.old (put program.now.families line write object i value) ops.new result }
+    requires { Can O.at O.goes O.halted program.now ops.old (put (width_of program.now.families) line write object i value) }
+    ensures { Ran O.at O.goes O.halted ops.old (put (width_of program.now.families) line write object i value) ops.new result }
 {
     let width = width_at(program, object);
     if i >= u64::from(width) {

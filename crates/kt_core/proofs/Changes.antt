@@ -14,15 +14,15 @@ use Rattle.kt_prog.specs.declared.runs.Operation.{Operation}
 use Rattle.kt_prog.specs.declared.runs.Operation.TheVariants as O
 use Rattle.kt_store.specs.Stores.{StoreState}
 use Rattle.kt_body.specs.Laws.{NextIsRightful, NextIsOnElement, IsOnElement}
-use Rattle.kt_core.specs.States.{most_tasks}
-use Rattle.kt_core.specs.Tables.{TaskRow, CoreState, fresh_row, is_child, is_finished, next_child, count_rows}
-use Rattle.kt_core.specs.TableEvents.{IsDue, added_by, in_phase, is_running, row_after, state_after, wants, went_on}
-use Rattle.kt_core.specs.TableLaws.{IsLawfulState}
+use Rattle.kt_runs.specs.States.{most_tasks}
+use Rattle.kt_tables.specs.Tables.{TaskRow, CoreState, fresh_row, is_child, is_finished, next_child, count_rows}
+use Rattle.kt_tables.specs.TableEvents.{IsDue, added_by, in_phase, is_running, row_after, state_after, wants, went_on}
+use Rattle.kt_tables.specs.TableLaws.{IsLawfulState}
 use Rattle.kt_core.specs.Links.{AllFit, AreLinked, IsSound, LinkState, calls_of, numbers_of, paths_of, with_link}
 use Rattle.kt_core.specs.Steps.{EventsKeepStatesLawful, Goes, IsNoFork, acted, rephased}
-use Rattle.kt_core.specs.declared.events.Event.TheVariants as E
-use Rattle.kt_core.specs.declared.events.Phase.{Phase}
-use Rattle.kt_core.specs.declared.events.Phase.TheVariants as P
+use Rattle.kt_tables.specs.declared.events.Event.TheVariants as E
+use Rattle.kt_tables.specs.declared.events.Phase.{Phase}
+use Rattle.kt_tables.specs.declared.events.Phase.TheVariants as P
 use Rattle.kt_core.proofs.Searches.{numbers_counted}
 use Rattle.kt_core.proofs.Linking.{OncePaths, child_no_root, get_either, get_front, get_there, linked_more, map_kept, mapped_at, mapped_from, parent_of_child}
 use Rattle.kt_core.proofs.Settling.{settled_kept, settled_more}

@@ -10,11 +10,11 @@ use Rattle.kt_prog.specs.declared.runs.Operation.{Operation}
 use Rattle.kt_prog.specs.declared.runs.Operation.TheVariants as O
 use Rattle.kt_body.specs.Endings.{IsCalled, answers_of}
 use Rattle.kt_core.specs.Driven.{CanGo, IsPlain, StandsAt}
-use Rattle.kt_core.specs.Tables.{TaskRow, CoreState, fresh_row, opening_state}
-use Rattle.kt_core.specs.TableEvents.{CanAsk, Finds, FindsRoom, IsDue, added_by, in_phase, row_after, state_after, task_of, went_on}
-use Rattle.kt_core.specs.declared.events.Event.{Event}
-use Rattle.kt_core.specs.declared.events.Event.TheVariants as E
-use Rattle.kt_core.specs.declared.events.Phase.TheVariants as P
+use Rattle.kt_tables.specs.Tables.{TaskRow, CoreState, fresh_row, opening_state}
+use Rattle.kt_tables.specs.TableEvents.{CanAsk, Finds, FindsRoom, IsDue, added_by, in_phase, row_after, state_after, task_of, went_on}
+use Rattle.kt_tables.specs.declared.events.Event.{Event}
+use Rattle.kt_tables.specs.declared.events.Event.TheVariants as E
+use Rattle.kt_tables.specs.declared.events.Phase.TheVariants as P
 use Rattle.kt_core.proofs.Linking.{get_front, get_last, get_set_same}
 
 went_row : (op : Operation) → IsCalled op → (r : TaskRow) → row_after op r ≡ went_on (heard op) r

@@ -2,7 +2,7 @@
 use Rattle.std.proofs.Common.{◌≡◌, ◌<◌, ◌∙◌, ℕ, ap, List, length, arith}
 use Rattle.std.specs.List.{All}
 use Rattle.std.proofs.lemmas.List.{take_all}
-use Rattle.kt_core.specs.Tables.{TaskRow, is_child, are_siblings, is_open, open_before, clash_before, open_child, first_from}
+use Rattle.kt_tables.specs.Tables.{TaskRow, is_child, are_siblings, is_open, open_before, clash_before, open_child, first_from}
 use Rattle.kt_core.specs.Links.{first_below, is_in_the_way, numbers_of, paths_of, siblings_of}
 use Rattle.kt_core.proofs.Searches.{search_by_numbers, numbers_of_rows, both}
 

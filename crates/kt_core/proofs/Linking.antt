@@ -6,7 +6,7 @@ use Rattle.std.proofs.lemmas.Option.{slice_get_within, same_Some}
 use Rattle.std.proofs.lemmas.Bool.Decides.{nat_tests}
 use Rattle.kt_order.specs.Paths.{same_path}
 use Rattle.kt_order.proofs.Squares.{same_is}
-use Rattle.kt_core.specs.Tables.{TaskRow, is_root, is_child, are_siblings, parent_of}
+use Rattle.kt_tables.specs.Tables.{TaskRow, is_root, is_child, are_siblings, parent_of}
 use Rattle.kt_core.specs.Links.{LinkState, AreLinked, IsParent, numbers_from, numbers_of, paths_of, siblings_of, with_child, with_link, fresh_links}
 use Rattle.kt_core.proofs.Searches.{numbers_alike, numbers_none}
 

@@ -8,8 +8,8 @@ use Rattle.kt_prog.specs.Accepted.{IsAccepted}
 use Rattle.kt_prog.specs.Objects.{inputs_of}
 use Rattle.kt_prog.specs.declared.programs.Program.{Program}
 use Rattle.kt_store.specs.Stores.{StoreState, opened}
-use Rattle.kt_core.specs.Tables.{CoreState, TaskRow, fresh_row, is_child, opening_state}
-use Rattle.kt_core.specs.TableLaws.{HasNoLoops, OpeningTableIsLawful}
+use Rattle.kt_tables.specs.Tables.{CoreState, TaskRow, fresh_row, is_child, opening_state}
+use Rattle.kt_tables.specs.TableLaws.{HasNoLoops, OpeningTableIsLawful}
 use Rattle.kt_core.specs.Links.{AllFit, AreLinked, IsParent, IsSettled, IsSound, LinkState, fresh_links, numbers_of}
 
 alone : {X : Type 0} → (x y : X) (t : ℕ) → slice_get (x ∷ []) t ≡ Some y → y ≡ x

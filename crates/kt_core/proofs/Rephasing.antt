@@ -3,14 +3,14 @@ use Rattle.std.proofs.Common.{◌≡◌, ◌<◌, ℕ, List, length, refl, sym, 
 use Rattle.std.specs.Option.{option_map}
 use Rattle.std.specs.List.{slice_get}
 use Rattle.std.proofs.lemmas.List.{length-set}
-use Rattle.kt_core.specs.Tables.{TaskRow, CoreState, is_finished, open_before, clash_before, open_child}
-use Rattle.kt_core.specs.TableEvents.{after_at, in_phase, is_unclaimed, is_ended, is_looping, refusal, state_after}
+use Rattle.kt_tables.specs.Tables.{TaskRow, CoreState, is_finished, open_before, clash_before, open_child}
+use Rattle.kt_tables.specs.TableEvents.{after_at, in_phase, is_unclaimed, is_ended, is_looping, refusal, state_after}
 use Rattle.kt_core.specs.Steps.{rephased, rephased_at}
-use Rattle.kt_core.specs.declared.events.Event.{Event}
-use Rattle.kt_core.specs.declared.events.Event.TheVariants as E
-use Rattle.kt_core.specs.declared.events.Phase.{Phase}
-use Rattle.kt_core.specs.declared.events.Phase.TheVariants as P
-use Rattle.kt_core.specs.declared.events.Why.TheVariants as W
+use Rattle.kt_tables.specs.declared.events.Event.{Event}
+use Rattle.kt_tables.specs.declared.events.Event.TheVariants as E
+use Rattle.kt_tables.specs.declared.events.Phase.{Phase}
+use Rattle.kt_tables.specs.declared.events.Phase.TheVariants as P
+use Rattle.kt_tables.specs.declared.events.Why.TheVariants as W
 
 abbrev with_after : CoreState → Event → Option TaskRow → CoreState
 with_after c e o = record { program = c.program; input = c.input; table = after_at c.program e o c.table }

@@ -3,7 +3,7 @@ use Rattle.std.proofs.Common.{◌≡◌, ◌<◌, ◌≤◌, ℕ, zero, suc, ◌
 use Rattle.std.specs.List.{slice_get, All}
 use Rattle.std.proofs.lemmas.Bool.Decides.{nat_tests}
 use Rattle.std.proofs.lemmas.List.{length-map, at_drop_more, at_drop_all}
-use Rattle.kt_core.specs.Tables.{TaskRow, first_from, count_rows}
+use Rattle.kt_tables.specs.Tables.{TaskRow, first_from, count_rows}
 use Rattle.kt_core.specs.Links.{first_below, holds_of, numbers_from, numbers_of, paths_of}
 
 take_none : {X : Type 0} → (n : ℕ) → take n (let xs : List X = [] in xs) ≡ []

@@ -6,7 +6,7 @@ use Rattle.std.proofs.lemmas.List.{length-set}
 use Rattle.std.proofs.lemmas.List.Elements.{All-drop}
 use Rattle.std.proofs.lemmas.Option.{slice_get_within, same_Some}
 use Rattle.kt_prog.specs.Calls.{CallTree}
-use Rattle.kt_core.specs.Tables.{TaskRow, CoreState, is_child, is_finished, is_open}
+use Rattle.kt_tables.specs.Tables.{TaskRow, CoreState, is_child, is_finished, is_open}
 use Rattle.kt_core.specs.Links.{AreDone, AreLinked, AreSettled, FindsAlike, IsParent, IsSettled, IsSound, LinkState, first_below, fresh_links, holds_of, is_done, is_in_the_way, numbers_from, numbers_of, paths_of, with_child, with_link, with_settled}
 use Rattle.kt_core.proofs.Linking.{decided, get_either, get_front, get_set_other, get_set_same}
 

@@ -3,11 +3,11 @@ use Rattle.std.specs.Prelude.{◌≡◌, ℕ, List, Some, slice_get}
 use Rattle.kt_prog.specs.Calls.{Job, Whole}
 use Rattle.kt_prog.specs.declared.programs.Program.{Program}
 use Rattle.kt_prog.specs.declared.runs.Operation.{Operation}
-use Rattle.kt_core.specs.Tables.{TaskRow, CoreState}
-use Rattle.kt_core.specs.TableEvents.{IsDue}
-use Rattle.kt_core.specs.declared.events.Event.{Event}
-use Rattle.kt_core.specs.declared.events.Event.TheVariants as E
-use Rattle.kt_core.specs.declared.events.Phase.TheVariants as P
+use Rattle.kt_tables.specs.Tables.{TaskRow, CoreState}
+use Rattle.kt_tables.specs.TableEvents.{IsDue}
+use Rattle.kt_tables.specs.declared.events.Event.{Event}
+use Rattle.kt_tables.specs.declared.events.Event.TheVariants as E
+use Rattle.kt_tables.specs.declared.events.Phase.TheVariants as P
 
 -- task t runs, and stands in this body of the program after so many operations, whose loads found these numbers
 pub record StandsAt (c : CoreState) (t : ℕ) (p : Program) (job : Job) (answers : List ℕ) (count : ℕ) : Type 0 where

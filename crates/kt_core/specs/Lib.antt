@@ -1,16 +1,3 @@
-pub mod Clash
-pub mod Plans
-pub mod Rights
-pub mod Bodies
-pub mod States
-pub mod Numbers
-pub mod Loops
-pub mod CoreEvents
-pub mod Tables
-pub mod TableEvents
-pub mod Theorems
-pub mod TableLaws
-pub mod TableEnabled
 pub mod Links
 pub mod Steps
 pub mod Sound

@@ -2,10 +2,10 @@
 -- tasks of a frame goes by these, and not through all tasks.
 use Rattle.std.specs.Prelude.{◌≡◌, ◌≤◌, ◌<◌, ℕ, suc, List, [], ◌∷◌, ◌++◌, length, map, Bool, true, false, cond, Option, Some, None, nat_lt, slice_get, slice_set, ◌&&◌}
 use Rattle.kt_prog.specs.Fits.{Fits}
-use Rattle.kt_core.specs.States.{most_tasks}
-use Rattle.kt_core.specs.Tables.{TaskRow, CoreState, is_root, is_child, are_siblings, parent_of, is_finished, is_open}
-use Rattle.kt_core.specs.TableLaws.{IsLawfulState}
-use Rattle.kt_core.specs.Clash.{calls_clash}
+use Rattle.kt_runs.specs.States.{most_tasks}
+use Rattle.kt_tables.specs.Tables.{TaskRow, CoreState, is_root, is_child, are_siblings, parent_of, is_finished, is_open}
+use Rattle.kt_tables.specs.TableLaws.{IsLawfulState}
+use Rattle.kt_runs.specs.Clash.{calls_clash}
 use Rattle.kt_prog.specs.Calls.{CallTree}
 use Rattle.kt_prog.specs.declared.programs.Program.{Program}
 

@@ -1,5 +1,5 @@
 -- The fields of a core, and what holds of them.
-use Rattle.kt_core.specs.Tables.{CoreState}
+use Rattle.kt_tables.specs.Tables.{CoreState}
 use Rattle.kt_core.specs.Links.{IsSound}
 use Rattle.kt_core.specs.declared.running.Core.TheInside.{Inside}
 

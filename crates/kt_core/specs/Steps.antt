@@ -3,12 +3,12 @@ use Rattle.std.specs.Prelude.{◌≡◌, ℕ, true, List, Option, Some, None, Re
 use Rattle.kt_prog.specs.declared.runs.Operation.{Operation}
 use Rattle.kt_prog.specs.declared.runs.Operation.TheVariants as O
 use Rattle.kt_store.specs.Stores.{StoreState}
-use Rattle.kt_core.specs.Tables.{TaskRow, CoreState, is_finished}
-use Rattle.kt_core.specs.TableEvents.{CanAsk, Replies, in_phase, refusal, state_after, store_after}
-use Rattle.kt_core.specs.TableLaws.{IsLawfulState}
-use Rattle.kt_core.specs.declared.events.Event.{Event}
-use Rattle.kt_core.specs.declared.events.Phase.{Phase}
-use Rattle.kt_core.specs.declared.events.Why.{Why}
+use Rattle.kt_tables.specs.Tables.{TaskRow, CoreState, is_finished}
+use Rattle.kt_tables.specs.TableEvents.{CanAsk, Replies, in_phase, refusal, state_after, store_after}
+use Rattle.kt_tables.specs.TableLaws.{IsLawfulState}
+use Rattle.kt_tables.specs.declared.events.Event.{Event}
+use Rattle.kt_tables.specs.declared.events.Phase.{Phase}
+use Rattle.kt_tables.specs.declared.events.Why.{Why}
 
 -- the answer to an event, and the core after it
 pub record Steps (e : Event) (old new : CoreState) (answer : Result (Unit {0}) Why) : Type 0 where

@@ -1,7 +1,7 @@
 // Calls that clash.
 ghost use Rattle.std.specs.Prelude.{◌≡◌};
 ghost use Rattle.kt_law.specs.Accesses.{any_clash, clash_between};
-ghost use Rattle.kt_core.specs.Clash.{calls_clash};
+ghost use Rattle.kt_runs.specs.Clash.{calls_clash};
 
 use kt_law::{Access, clash};
 use kt_prog::Call;

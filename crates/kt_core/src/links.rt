@@ -1,7 +1,7 @@
 // The links of the tasks of a core to their parents and children.
 ghost use Rattle.std.specs.Prelude.{◌≡◌, ◌≤◌, ◌<◌, ◌++◌, ◌∷◌, ◌^◌, [], drop, All, IfErr, IfOk, Some, length, slice_get, slice_set, slice_index};
 ghost use Rattle.kt_core.specs.Links.{AreDone, first_below, fresh_links, is_in_the_way, with_child, with_link, with_settled};
-ghost use Rattle.kt_core.specs.Tables.{is_open};
+ghost use Rattle.kt_tables.specs.Tables.{is_open};
 
 use crate::claims::calls_clash;
 use crate::rows::Row;

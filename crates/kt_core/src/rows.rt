@@ -1,23 +1,16 @@
 // The tasks of a core.
 ghost use Rattle.std.specs.Prelude.{◌≡◌, ◌≤◌, ◌<◌, ◌-◌, ◌^◌, ◌∷◌, ◌++◌, ◌↔◌, [], IfErr, IfOk, IsTrue, length};
-ghost use Rattle.kt_core.specs.Tables.{fault_of_row, fresh_row};
-ghost use Rattle.kt_core.specs.TableEvents.{in_phase, row_after, went_on};
-ghost use Rattle.kt_core.specs.declared.events.Phase.TheVariants as phase_is;
+ghost use Rattle.kt_tables.specs.Tables.{fault_of_row, fresh_row};
+ghost use Rattle.kt_tables.specs.TableEvents.{in_phase, row_after, went_on};
+ghost use Rattle.kt_tables.specs.declared.events.Phase.TheVariants as phase_is;
 ghost use Rattle.kt_prog.specs.declared.runs.Operation.TheVariants as operation_is;
 
-use crate::events::Phase;
 use arrayvec::ArrayVec;
 use kt_law::{F, NoMemory};
 use kt_prog::{Call, FaultAt, Operation, PATH};
+use kt_tables::{BodyFault, Phase};
 use std::alloc::Global;
 use std::marker::Model;
-
-/// The fault that ended a body, with the line of the statement that met it.
-#[derive(Clone, Copy, Debug, PartialEq, Eq)]
-pub struct BodyFault {
-    pub law: F,
-    pub line: u32,
-}
 
 /// A task.
 #[derive(Drop)]
@@ -32,7 +25,7 @@ pub struct Row {
 
 impl Model for Row {
     ghost use Rattle.std.specs.Prelude.{option_map};
-    ghost use Rattle.kt_core.specs.Tables.{TaskRow, body_fault};
+    ghost use Rattle.kt_tables.specs.Tables.{TaskRow, body_fault};
 
     ghost Value = { TaskRow };
 

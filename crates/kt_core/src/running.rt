@@ -9,19 +9,19 @@ ghost use Rattle.kt_prog.specs.Reference.{reference};
 ghost use Rattle.kt_prog.specs.Store.{answer};
 ghost use Rattle.kt_core.specs.Links.{FindsAlike, siblings_of};
 ghost use Rattle.kt_core.specs.Steps.{StaysFinished, rephased};
-ghost use Rattle.kt_core.specs.Tables.{MainIsFinished, TaskRow, clash_before, fault_of_row, open_before, open_child, opening_state};
-ghost use Rattle.kt_core.specs.TableLaws.{HasNoLoops, IsLawfulState, faults_in};
+ghost use Rattle.kt_tables.specs.Tables.{MainIsFinished, TaskRow, clash_before, fault_of_row, open_before, open_child, opening_state};
+ghost use Rattle.kt_tables.specs.TableLaws.{HasNoLoops, IsLawfulState, faults_in};
 
 mod steps;
 
-use crate::events::Phase;
 use crate::links::{Link, count_settled, first_clash, first_open};
 use crate::rows::Row;
-use crate::tables::{done_table_is_reference, opening_table_is_lawful, tables_have_no_more};
 use arrayvec::ArrayVec;
 use kt_law::NoMemory;
 use kt_prog::{Call, FaultAt, Program};
 use kt_store::PlainStore;
+use kt_tables::Phase;
+use kt_tables::laws::{done_table_is_reference, opening_table_is_lawful, tables_have_no_more};
 use std::alloc::Global;
 use std::marker::Model;
 
@@ -38,7 +38,7 @@ pub struct Core<'a> {
 
 impl<'a> Model for Core<'a> {
     ghost use Rattle.std.specs.Coded.{codes};
-    ghost use Rattle.kt_core.specs.Tables.{CoreState};
+    ghost use Rattle.kt_tables.specs.Tables.{CoreState};
     ghost use Rattle.kt_prog.specs.contracts.programs.What as what;
     ghost use Rattle.kt_prog.specs.contracts.programs.Stmt as stmt;
     ghost use Rattle.kt_prog.specs.contracts.programs.Expr as expr;

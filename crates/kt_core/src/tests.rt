@@ -4,11 +4,11 @@ ghost use Rattle.kt_body.specs.Endings.{IsCalled};
 ghost use Rattle.kt_prog.specs.Accepted.{IsAccepted};
 ghost use Rattle.kt_prog.specs.Names.{IsName};
 ghost use Rattle.kt_core.specs.Driven.{CanGo, IsPlain, StandsAt};
-ghost use Rattle.kt_core.specs.TableEvents.{task_of};
-ghost use Rattle.kt_core.specs.TableLaws.{HasNoLoops};
-ghost use Rattle.kt_core.specs.Tables.{opening_state};
+ghost use Rattle.kt_tables.specs.TableEvents.{task_of};
+ghost use Rattle.kt_tables.specs.TableLaws.{HasNoLoops};
+ghost use Rattle.kt_tables.specs.Tables.{opening_state};
 
-use crate::{Core, Event, Phase, Why, laws, loops};
+use crate::{Core, Event, Phase, Why};
 use kt_body::laws::next_is_on_element;
 use kt_body::{Ended, Got, Ops, Went, run_body};
 use kt_check::check;
@@ -22,50 +22,6 @@ use sqlite_items::{Boxed, Items};
 use std::alloc::{AllocError, Global};
 use std::process::Abort;
 use std::test::Fail;
-
-#[test]
-fn laws_hold_of_accepted_programs() {
-    laws::programs_obey();
-    laws::programs_meet_laws();
-    laws::programs_meet_apart_laws();
-    laws::apart_is_no_clash();
-}
-
-#[test]
-fn laws_of_runs_hold() {
-    laws::opening_is_lawful();
-    laws::events_keep_lawful();
-    laws::runs_are_lawful();
-    laws::done_is_reference();
-    laws::every_order_is_reference();
-    laws::some_event_goes();
-    laws::runs_end();
-    laws::next_is_first();
-    laws::tasks_are_numbered();
-}
-
-#[test]
-fn laws_of_tasks_under_way_hold() {
-    laws::tasks_begin_reference();
-    laws::no_more_tasks();
-    laws::side_by_side_agree();
-    laws::in_line_agree();
-}
-
-#[test]
-fn laws_of_loops_hold() {
-    loops::loop_begins();
-    loops::loop_splits();
-    loops::loop_takes();
-    loops::loop_index_goes();
-    loops::loop_retires();
-    loops::loop_finishes();
-    loops::loop_goes_on();
-    loops::loop_stays();
-    laws::core_events_keep_lawful();
-    laws::core_runs_are_lawful();
-    laws::core_runs_give_reference();
-}
 
 fn at(line: u32) -> Place {
     Place { line, column: 1 }

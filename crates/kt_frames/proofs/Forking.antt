@@ -107,7 +107,7 @@ module _ (H : Job → Type 0) where
   expr_layer (E.Elem name place at) = record {
     at = λ v. fine_then _ _ (fine_object (bound_of v.site v.locals name)) (λ o.
         fine_then _ _ (at.1.at v) (λ i.
-        fine_then _ _ (fine_test (nat_lt i (width_of v.site.families o)) F2 v.line) (λ u. good_load Free H o i tt)));
+        fine_then _ _ (fine_test (nat_lt i (v.site.widths o)) F2 v.line) (λ u. good_load Free H o i tt)));
   }
   expr_layer (E.Bin op x y) = record {
     at = λ v. fine_then _ _ (x.1.at v) (λ a. fine_then _ _ (y.1.at v) (λ b. fine_applied (apply_of op a b) v.line));
@@ -185,12 +185,12 @@ module _ (H : Job → Type 0) where
   fine_zero_elements object from (suc n) =
       fine_then _ _ (good_perform Free H object from (Store 0) tt) (λ u. fine_zero_elements object (suc from) n)
 
-  fine_zero_objects : (families : List Family) (object n : ℕ) → Fine (zero_objects families object n)
+  fine_zero_objects : (families : List Family) (object n : ℕ) → Fine (zero_objects (width_of families) object n)
   fine_zero_objects families object zero = fine_give tt
   fine_zero_objects families object (suc n) =
       fine_then _ _ (fine_zero_elements object 0 (width_of families object)) (λ u. fine_zero_objects families (suc object) n)
 
-  fine_zero_access : (families : List Family) (a : Access) (mode : Mode) → Fine (zero_access families a mode)
+  fine_zero_access : (families : List Family) (a : Access) (mode : Mode) → Fine (zero_access (width_of families) a mode)
   fine_zero_access families a M.R = fine_give tt
   fine_zero_access families a M.W = fine_zero_objects families a.lo (a.hi - a.lo)
   fine_zero_access families a M.X = fine_give tt
@@ -200,7 +200,7 @@ module _ (H : Job → Type 0) where
   fine_zero_access families a M.Xp = fine_give tt
   fine_zero_access families a (M.Cwp op) = fine_give tt
 
-  pub fine_zeros : (families : List Family) (accesses : List Access) → Fine (zero_all families accesses)
+  pub fine_zeros : (families : List Family) (accesses : List Access) → Fine (zero_all (width_of families) accesses)
   fine_zeros families [] = fine_give tt
   fine_zeros families (a ∷ accesses) = fine_then _ _ (fine_zero_access families a a.mode) (λ u. fine_zeros families accesses)
 
@@ -272,7 +272,7 @@ module _ (H : Job → Type 0) where
         fine = λ h site st is. fine_then _ _ (fine_object (bound_of site st.locals name)) (λ o.
             fine_then _ _ (fine_value i _) (λ k.
             fine_then _ _ (fine_value e _) (λ n.
-            fine_then _ _ (fine_test (nat_lt k (width_of site.families o)) F2 line) (λ u.
+            fine_then _ _ (fine_test (nat_lt k (site.widths o)) F2 line) (λ u.
             fine_then _ _ (good_perform Free H o k (Store n) tt) (λ w. fine_give st)))));
       };
     }
@@ -281,7 +281,7 @@ module _ (H : Job → Type 0) where
         fine = λ h site st is. fine_then _ _ (fine_object (bound_of site st.locals name)) (λ o.
             fine_then _ _ (fine_value i _) (λ k.
             fine_then _ _ (fine_value e _) (λ n.
-            fine_then _ _ (fine_test (nat_lt k (width_of site.families o)) F2 line) (λ u.
+            fine_then _ _ (fine_test (nat_lt k (site.widths o)) F2 line) (λ u.
             fine_then _ _ (good_perform Free H o k (Fold op n) tt) (λ w. fine_give st)))));
       };
     }

@@ -11,13 +11,11 @@ use Rattle.kt_law.specs.declared.modes.Mode.TheVariants.{R, W, X, Cw}
 use Rattle.kt_law.specs.declared.accesses.Access.{Access}
 use Rattle.kt_prog.specs.Calls.{Job}
 use Rattle.kt_prog.specs.Script.{Step}
-use Rattle.kt_prog.specs.Objects.{width_of}
 use Rattle.kt_law.specs.PlainKernels.{tile, sum_below, least_below, mul_of, minplus_of, stencil_of, scan_of}
 use Rattle.kt_prog.specs.Kernels.{load_all, perform_all, object_at, is_side, has, product, smooth, stencil_body, scan_body, kernel_body}
 use Rattle.kt_prog.specs.Rights.{SomeOf, Permits, Allowed, lets}
 use Rattle.kt_prog.specs.Fits.{AreGiven, kernel_at}
 use Rattle.kt_prog.specs.Targets.{Target}
-use Rattle.kt_prog.specs.declared.programs.Family.{Family}
 use Rattle.kt_prog.specs.declared.programs.Sort.TheVariants as S
 use Rattle.kt_prog.proofs.Good.{Good, good_give, good_then, good_test, good_load, good_perform}
 use Rattle.kt_prog.proofs.Lists.{both_hold, some_more}
@@ -37,9 +35,9 @@ length-stencil left row right = length-map-range_with_len _ 0 (length row)
 length-scan : (row : List ℕ) (start : ℕ) → length (scan_of start row) ≡ length row
 length-scan row start = length-map-range_with_len _ 0 (length row)
 
-module _ (families : List Family) (rights : List Access) (H : Job → Type 0) where
+module _ (widths : ℕ → ℕ) (rights : List Access) (H : Job → Type 0) where
   abbrev GoodAt : {A : Type 0} → (A → Type 0) → Step A → Type 0
-  GoodAt = Good (Allowed families rights None) H
+  GoodAt = Good (Allowed widths rights None) H
 
   abbrev Nothing : Unit {0} → Type 0
   Nothing x = Unit {0}
@@ -47,43 +45,43 @@ module _ (families : List Family) (rights : List Access) (H : Job → Type 0) wh
   abbrev pub Has : Mode → ℕ → Type 0
   Has mode o = SomeOf (λ (a : Access). (a.lo ≤ o) × (suc o ≤ a.hi) × (a.mode ≡ mode)) rights
 
-  may : (mode : Mode) (o e : ℕ) (deed : Deed) → lets mode deed ≡ true → e < width_of families o → Has mode o
-      → Allowed families rights None (record { object = o; element = e; deed = deed })
+  may : (mode : Mode) (o e : ℕ) (deed : Deed) → lets mode deed ≡ true → e < widths o → Has mode o
+      → Allowed widths rights None (record { object = o; element = e; deed = deed })
   may mode o e deed l lt h = (
     lt,
     some_more (λ (a : Access). (a.lo ≤ o) × (suc o ≤ a.hi) × (a.mode ≡ mode)) (Permits None (record { object = o; element = e; deed = deed }))
         (λ a x. (x.0, omega arith, subst (λ (m : Mode). lets m deed ≡ true) (sym x.2) l, tt)) rights h,
   )
 
-  loads_good : (mode : Mode) (o from n : ℕ) → lets mode Load ≡ true → Has mode o → from + n ≤ width_of families o
+  loads_good : (mode : Mode) (o from n : ℕ) → lets mode Load ≡ true → Has mode o → from + n ≤ widths o
       → GoodAt (λ xs. length xs ≡ n) (load_all o from n)
   loads_good mode o from zero l h le = good_give _ H (λ xs. length xs ≡ 0) [] refl
   loads_good mode o from (suc n) l h le =
-      let below : from < width_of families o = omega arith in
+      let below : from < widths o = omega arith in
       good_then _ H (λ (x : ℕ). Unit {0}) (λ xs. length xs ≡ suc n) _ _ (good_load _ H o from (may mode o from Load l below h)) (λ x _.
       good_then _ H (λ xs. length xs ≡ n) (λ xs. length xs ≡ suc n) _ _ (loads_good mode o (suc from) n l h (omega arith)) (λ xs e.
       good_give _ H (λ xs. length xs ≡ suc n) (x ∷ xs) (ap suc e)))
 
   performs_good : (mode : Mode) (f : ℕ → Deed) (o from : ℕ) (xs : List ℕ) → ((x : ℕ) → lets mode (f x) ≡ true) → Has mode o
-      → from + length xs ≤ width_of families o → GoodAt Nothing (perform_all f o from xs)
+      → from + length xs ≤ widths o → GoodAt Nothing (perform_all f o from xs)
   performs_good mode f o from [] l h le = good_give _ H Nothing tt tt
   performs_good mode f o from (x ∷ xs) l h le =
-      let room : from + suc (length xs) ≤ width_of families o = le in
-      let below : from < width_of families o = omega arith in
+      let room : from + suc (length xs) ≤ widths o = le in
+      let below : from < widths o = omega arith in
       good_then _ H Nothing Nothing _ _ (good_perform _ H o from (f x) (may mode o from (f x) (l x) below h))
       (λ _ _. performs_good mode f o (suc from) xs l h (omega arith))
 
-  has_room : (o n : ℕ) → has families o n ≡ true → 0 + n ≤ width_of families o
-  has_room o n h = let le : nat_le n (width_of families o) ≡ true = h in grind (arith, nat_tests)
+  has_room : (o n : ℕ) → has widths o n ≡ true → 0 + n ≤ widths o
+  has_room o n h = let le : nat_le n (widths o) ≡ true = h in grind (arith, nat_tests)
 
   product_good : (f : ℕ → ℕ → ℕ → List ℕ → List ℕ → List ℕ) (deed : ℕ → Deed) (mode : Mode) (n p q a b c : ℕ)
       → ((xs ys : List ℕ) → length (f n p q xs ys) ≡ n * q) → ((x : ℕ) → lets mode (deed x) ≡ true) → Has R a → Has R b → Has mode c
-      → GoodAt Nothing (product families f deed n p q a b c)
+      → GoodAt Nothing (product widths f deed n p q a b c)
   product_good f deed mode n p q a b c long l ra rb rc =
       let t1 = is_side n && is_side p && is_side q in
-      let t2 = has families a (n * p) in
-      let t3 = has families b (p * q) in
-      let t4 = has families c (n * q) in
+      let t2 = has widths a (n * p) in
+      let t3 = has widths b (p * q) in
+      let t4 = has widths c (n * q) in
       good_then _ H (λ _. (t1 && t2 && t3 && t4) ≡ true) Nothing _ _ (good_test _ H _ F2 0) (λ _ t.
       let e4 = both_hold (t1 && t2 && t3) t4 t in
       let e3 = both_hold (t1 && t2) t3 e4.0 in
@@ -92,45 +90,45 @@ module _ (families : List Family) (rights : List Access) (H : Job → Type 0) wh
       good_then _ H (λ ys. length ys ≡ p * q) Nothing _ _ (loads_good R b 0 (p * q) refl rb (has_room b (p * q) e3.1)) (λ ys _.
       performs_good mode deed c 0 (f n p q xs ys) l rc (rw (long xs ys) (has_room c (n * q) e4.1)))))
 
-  smooth_good : (n l a r b : ℕ) → Has R l → Has R a → Has R r → Has W b → n ≤ width_of families l → n ≤ width_of families a
-      → n ≤ width_of families r → n ≤ width_of families b → GoodAt Nothing (smooth families n l a r b)
+  smooth_good : (n l a r b : ℕ) → Has R l → Has R a → Has R r → Has W b → n ≤ widths l → n ≤ widths a
+      → n ≤ widths r → n ≤ widths b → GoodAt Nothing (smooth widths n l a r b)
   smooth_good zero l a r b hl ha hr hb wl wa wr wb = good_give _ H Nothing tt tt
   smooth_good (suc n) l a r b hl ha hr hb wl wa wr wb =
-      let left_there : n < width_of families l = omega arith in
-      let right_there : 0 < width_of families r = omega arith in
+      let left_there : n < widths l = omega arith in
+      let right_there : 0 < widths r = omega arith in
       good_then _ H (λ (x : ℕ). Unit {0}) Nothing _ _ (good_load _ H l n (may R l n Load refl left_there hl)) (λ left _.
       good_then _ H (λ xs. length xs ≡ suc n) Nothing _ _ (loads_good R a 0 (suc n) refl ha (omega arith)) (λ row e.
       good_then _ H (λ (x : ℕ). Unit {0}) Nothing _ _ (good_load _ H r 0 (may R r 0 Load refl right_there hr)) (λ right _.
       performs_good W Store b 0 (stencil_of left row right) (λ x. refl) hb (rw (length-stencil left row right, e) (omega arith)))))
 
-  stencil_good : (n l a r b : ℕ) → Has R l → Has R a → Has R r → Has W b → GoodAt Nothing (stencil_body families n l a r b)
+  stencil_good : (n l a r b : ℕ) → Has R l → Has R a → Has R r → Has W b → GoodAt Nothing (stencil_body widths n l a r b)
   stencil_good n l a r b hl ha hr hb =
       let t1 = is_side n in
-      let t2 = has families l n in
-      let t3 = has families a n in
-      let t4 = has families r n in
-      let t5 = has families b n in
+      let t2 = has widths l n in
+      let t3 = has widths a n in
+      let t4 = has widths r n in
+      let t5 = has widths b n in
       good_then _ H (λ _. (t1 && t2 && t3 && t4 && t5) ≡ true) Nothing _ _ (good_test _ H _ F2 0) (λ _ t.
       let e5 = both_hold (t1 && t2 && t3 && t4) t5 t in
       let e4 = both_hold (t1 && t2 && t3) t4 e5.0 in
       let e3 = both_hold (t1 && t2) t3 e4.0 in
       let e2 = both_hold t1 t2 e3.0 in
-      let wl : 0 + n ≤ width_of families l = has_room l n e2.1 in
-      let wa : 0 + n ≤ width_of families a = has_room a n e3.1 in
-      let wr : 0 + n ≤ width_of families r = has_room r n e4.1 in
-      let wb : 0 + n ≤ width_of families b = has_room b n e5.1 in
+      let wl : 0 + n ≤ widths l = has_room l n e2.1 in
+      let wa : 0 + n ≤ widths a = has_room a n e3.1 in
+      let wr : 0 + n ≤ widths r = has_room r n e4.1 in
+      let wb : 0 + n ≤ widths b = has_room b n e5.1 in
       smooth_good n l a r b hl ha hr hb (omega arith) (omega arith) (omega arith) (omega arith))
 
-  scan_good : (n t s a : ℕ) → Has R s → Has X a → GoodAt Nothing (scan_body families n t s a)
+  scan_good : (n t s a : ℕ) → Has R s → Has X a → GoodAt Nothing (scan_body widths n t s a)
   scan_good n t s a hs ha =
       let t1 = is_side n in
-      let t2 = has families a n in
-      let t3 = nat_lt t (width_of families s) in
+      let t2 = has widths a n in
+      let t3 = nat_lt t (widths s) in
       good_then _ H (λ _. (t1 && t2 && t3) ≡ true) Nothing _ _ (good_test _ H _ F2 0) (λ _ h.
       let e3 = both_hold (t1 && t2) t3 h in
       let e2 = both_hold t1 t2 e3.0 in
-      let test : nat_lt t (width_of families s) ≡ true = e3.1 in
-      let below : t < width_of families s = grind (arith, nat_tests) in
+      let test : nat_lt t (widths s) ≡ true = e3.1 in
+      let below : t < widths s = grind (arith, nat_tests) in
       good_then _ H (λ (x : ℕ). Unit {0}) Nothing _ _ (good_load _ H s t (may R s t Load refl below hs)) (λ start _.
       good_then _ H (λ xs. length xs ≡ n) Nothing _ _ (loads_good X a 0 n refl ha (has_room a n e2.1)) (λ row e.
       performs_good X Store a 0 (scan_of start row) (λ x. refl) ha (rw (length-scan row start, e) (has_room a n e2.1)))))
@@ -175,22 +173,22 @@ scans ints accesses h = absurd h
 some_is : {A : Type 0} {x y : A} → Some x ≡ Some y → x ≡ y
 some_is e = cc
 
-module _ (families : List Family) (H : Job → Type 0) where
+module _ (widths : ℕ → ℕ) (H : Job → Type 0) where
   -- a kernel keeps to the accesses of its call
   pub kernel_good : (k : ℕ) (ints : List ℕ) (accesses : List Access) (t : Target) → kernel_at k ≡ Some t → AreGiven t.sorts ints accesses
-      → Good (Allowed families accesses None) H (λ _. Unit {0}) (kernel_body families k ints accesses)
+      → Good (Allowed widths accesses None) H (λ _. Unit {0}) (kernel_body widths k ints accesses)
   kernel_good zero ints accesses t is given =
       let r = products (Cw Add) ints accesses (subst (λ (y : Target). AreGiven y.sorts ints accesses) (sym (some_is is)) given) in
-      product_good families accesses H mul_of (Fold Add) (Cw Add) (slice_index ints 0) (slice_index ints 1) (slice_index ints 2) _ _ _
+      product_good widths accesses H mul_of (Fold Add) (Cw Add) (slice_index ints 0) (slice_index ints 1) (slice_index ints 2) _ _ _
       (length-mul (slice_index ints 0) (slice_index ints 1) (slice_index ints 2)) (λ x. refl) r.0 r.1 r.2
   kernel_good (suc zero) ints accesses t is given =
       let r = products (Cw Min) ints accesses (subst (λ (y : Target). AreGiven y.sorts ints accesses) (sym (some_is is)) given) in
-      product_good families accesses H minplus_of (Fold Min) (Cw Min) (slice_index ints 0) (slice_index ints 1) (slice_index ints 2) _ _ _
+      product_good widths accesses H minplus_of (Fold Min) (Cw Min) (slice_index ints 0) (slice_index ints 1) (slice_index ints 2) _ _ _
       (length-minplus (slice_index ints 0) (slice_index ints 1) (slice_index ints 2)) (λ x. refl) r.0 r.1 r.2
   kernel_good (suc (suc zero)) ints accesses t is given =
       let r = stencils ints accesses (subst (λ (y : Target). AreGiven y.sorts ints accesses) (sym (some_is is)) given) in
-      stencil_good families accesses H (slice_index ints 0) _ _ _ _ r.0 r.1 r.2 r.3
+      stencil_good widths accesses H (slice_index ints 0) _ _ _ _ r.0 r.1 r.2 r.3
   kernel_good (suc (suc (suc zero))) ints accesses t is given =
       let r = scans ints accesses (subst (λ (y : Target). AreGiven y.sorts ints accesses) (sym (some_is is)) given) in
-      scan_good families accesses H (slice_index ints 0) (slice_index ints 1) _ _ r.0 r.1
+      scan_good widths accesses H (slice_index ints 0) (slice_index ints 1) _ _ r.0 r.1
   kernel_good (suc (suc (suc (suc k)))) ints accesses t is given = cc

@@ -7,7 +7,7 @@ use Rattle.kt_law.specs.declared.accesses.Access.{Access}
 use Rattle.kt_prog.specs.Calls.{CallTree, Job, Whole, Index}
 use Rattle.kt_prog.specs.Script.{Script}
 use Rattle.kt_prog.specs.Locals.{given}
-use Rattle.kt_prog.specs.Objects.{objects_of, elements_of}
+use Rattle.kt_prog.specs.Objects.{objects_of, elements_of, width_of}
 use Rattle.kt_prog.specs.Targets.{Target, target, target_of, is_loop_of}
 use Rattle.kt_prog.specs.Bodies.{statements, site_of, task_body, main_body, with_index, index_body, task_at, indexes, task_or_loop, index_in, call_body, job_body, script_with}
 use Rattle.kt_prog.specs.Kernels.{kernel_body}
@@ -119,7 +119,7 @@ module _ (lost : Script → Script) (p : Program) (ok : Parts p) where
     statements_good : (in_main : Bool) (fam : in_main ≡ true → FamiliesMatch (site_of p in_main depth) rights own) (s : Scope)
         (locals : List Local) (body : List Stmt)
         → Agrees (site_of p in_main depth) rights own s locals → block_rules (map rules_of_stmt body) s ≡ []
-        → Good (Allowed p.families rights own) H Nothing (statements lost (site_of p in_main depth) locals body)
+        → Good (Allowed (width_of p.families) rights own) H Nothing (statements lost (site_of p in_main depth) locals body)
     statements_good in_main fam s locals body a h =
         good_then _ H (Ends lost (site_of p in_main depth) rights own H fam (objects_of p.families) room (handed rights depth own H on) s) Nothing _ _
         (body_keeps lost (site_of p in_main depth) rights own H fam (objects_of p.families) room (handed rights depth own H on) body s
@@ -129,7 +129,7 @@ module _ (lost : Script → Script) (p : Program) (ok : Parts p) where
   pub task_good : (call : CallTree) (t : Task) (n : ℕ) (H : Job → Type 0) → RulesOf t → t.index ≡ None
       → FitsTarget (objects_of p.families) call (target n t)
       → ((child : CallTree) → HandsOn p call.accesses call.depth child → H (Whole child))
-      → Good (Allowed p.families call.accesses None) H Nothing (task_body lost p call (Some t))
+      → Good (Allowed (width_of p.families) call.accesses None) H Nothing (task_body lost p call (Some t))
   task_good call t n H r none fits on =
       let site = site_of p false call.depth in
       let few = params_room (is_loop_of t.index) (known_index t.index) (record { ints = 0; objects = 0 }) t.params r.params (omega arith) (omega arith) in
@@ -156,7 +156,7 @@ module _ (lost : Script → Script) (p : Program) (ok : Parts p) where
 
   pub index_good : (call : CallTree) (t : Task) (n i : ℕ) (H : Job → Type 0) → RulesOf t
       → FitsTarget (objects_of p.families) call (target n t) → i < call.length
-      → Good (Allowed p.families call.accesses (Some i)) H Nothing (index_body lost p call i (Some t))
+      → Good (Allowed (width_of p.families) call.accesses (Some i)) H Nothing (index_body lost p call i (Some t))
   index_good call t n i H r fits lt =
       let site = site_of p false call.depth in
       let loop = loop_index t.index call.length i lt fits.formed in
@@ -181,7 +181,7 @@ module _ (lost : Script → Script) (p : Program) (ok : Parts p) where
 
   main_good : (mains : List Main) (H : Job → Type 0) → main_rules p.end mains ≡ [] → mains_rules p mains ≡ []
       → ((child : CallTree) → HandsOn p (rights_at (objects_of p.families) [] 0) 0 child → H (Whole child))
-      → Good (Allowed p.families (rights_at (objects_of p.families) [] 0) None) H Nothing (main_body lost p mains)
+      → Good (Allowed (width_of p.families) (rights_at (objects_of p.families) [] 0) None) H Nothing (main_body lost p mains)
   main_good [] H there h on = cc
   main_good (m ∷ mains) H there h on =
       let rights = rights_at (objects_of p.families) [] 0 in
@@ -201,29 +201,29 @@ module _ (lost : Script → Script) (p : Program) (ok : Parts p) where
   -- a call of the task or loop t
   body_good : (call : CallTree) (t : Task) (n : ℕ) (x : Option I.Index) → t.index ≡ x → RulesOf t
       → FitsTarget (objects_of p.families) call (target n t) → rights_of p call ≡ call.accesses
-      → Good (Allowed p.families call.accesses None) (Forks p (Whole call)) Nothing (task_or_loop lost p call (Some t) x)
+      → Good (Allowed (width_of p.families) call.accesses None) (Forks p (Whole call)) Nothing (task_or_loop lost p call (Some t) x)
   body_good call t n None e r fits same =
       task_good call t n (Forks p (Whole call)) r e fits (λ child h. subst (λ (rights : List Access). HandsOn p rights call.depth child) (sym same) h)
-  body_good call t n (Some index) e r fits same = indexes_good call (Allowed p.families call.accesses None) 0 call.length (omega arith)
+  body_good call t n (Some index) e r fits same = indexes_good call (Allowed (width_of p.families) call.accesses None) 0 call.length (omega arith)
 
   numbered_good : (call : CallTree) (k : ℕ) (t : Target) → call.task ≡ suc k → target_at p.tasks (suc k) ≡ Some t
       → FitsTarget (objects_of p.families) call t
-      → Good (Allowed p.families call.accesses None) (Forks p (Whole call)) Nothing (call_body lost p call (suc k))
+      → Good (Allowed (width_of p.families) call.accesses None) (Forks p (Whole call)) Nothing (call_body lost p call (suc k))
   numbered_good call k t e is fits = chosen (nat_lt k DEFINITIONS) (task_target p.tasks 1 k) (kernel_at (k - DEFINITIONS)) is
       (λ f. let u = task_of p.tasks 1 k t f in
-      subst (λ (y : Option Task). Good (Allowed p.families call.accesses None) (Forks p (Whole call)) Nothing
+      subst (λ (y : Option Task). Good (Allowed (width_of p.families) call.accesses None) (Forks p (Whole call)) Nothing
       (task_or_loop lost p call y (index_in y))) (sym u.at)
       (body_good call u.task (1 + k) u.task.index refl (rules_at p.tasks k u.task ok.tasks u.at)
       (subst (λ (y : Target). FitsTarget (objects_of p.families) call y) u.is fits) (ap (rights_at (objects_of p.families) call.accesses) e)))
-      (λ f. kernel_good p.families (Forks p (Whole call)) (k - DEFINITIONS) call.ints call.accesses t f fits.given)
+      (λ f. kernel_good (width_of p.families) (Forks p (Whole call)) (k - DEFINITIONS) call.ints call.accesses t f fits.given)
     where
       chosen : (b : Bool) (x y : Option Target) → (if b then x else y) ≡ Some t
-          → (x ≡ Some t → Good (Allowed p.families call.accesses None) (Forks p (Whole call)) Nothing
+          → (x ≡ Some t → Good (Allowed (width_of p.families) call.accesses None) (Forks p (Whole call)) Nothing
           (task_or_loop lost p call (task_at p.tasks k) (index_in (task_at p.tasks k))))
-          → (y ≡ Some t → Good (Allowed p.families call.accesses None) (Forks p (Whole call)) Nothing
-          (kernel_body p.families (k - DEFINITIONS) call.ints call.accesses))
-          → Good (Allowed p.families call.accesses None) (Forks p (Whole call)) Nothing
-          (if b then task_or_loop lost p call (task_at p.tasks k) (index_in (task_at p.tasks k)) else kernel_body p.families
+          → (y ≡ Some t → Good (Allowed (width_of p.families) call.accesses None) (Forks p (Whole call)) Nothing
+          (kernel_body (width_of p.families) (k - DEFINITIONS) call.ints call.accesses))
+          → Good (Allowed (width_of p.families) call.accesses None) (Forks p (Whole call)) Nothing
+          (if b then task_or_loop lost p call (task_at p.tasks k) (index_in (task_at p.tasks k)) else kernel_body (width_of p.families)
           (k - DEFINITIONS) call.ints call.accesses)
       chosen true x y h f g = f h
       chosen false x y h f g = g h
@@ -234,7 +234,7 @@ module _ (lost : Script → Script) (p : Program) (ok : Parts p) where
   after_good call zero e (is_main main) =
       let deep : call.depth ≡ 0 = ap (λ (c : CallTree). c.depth) main in
       let same : rights_of p call ≡ rights_at (objects_of p.families) [] 0 = ap (rights_at (objects_of p.families) call.accesses) e in
-      subst (λ (rights : List Access). Good (Allowed p.families rights None) (Forks p (Whole call)) Nothing (main_body lost p p.mains)) (sym same)
+      subst (λ (rights : List Access). Good (Allowed (width_of p.families) rights None) (Forks p (Whole call)) Nothing (main_body lost p p.mains)) (sym same)
       (main_good p.mains (Forks p (Whole call)) ok.main ok.mains
       (λ child h. subst (λ (rights : List Access). HandsOn p rights call.depth child) (sym same)
       (subst (λ (d : ℕ). HandsOn p (rights_at (objects_of p.families) [] 0) d child) (sym deep) h)))
@@ -244,7 +244,7 @@ module _ (lost : Script → Script) (p : Program) (ok : Parts p) where
       no_target h = cc
   after_good call (suc k) e (is_main main) = let task : call.task ≡ 0 = ap (λ (c : CallTree). c.task) main in absurd (omega (arith, e, task))
   after_good call (suc k) e (is_call t is fits) =
-      subst (λ (rights : List Access). Good (Allowed p.families rights None) (Forks p (Whole call)) Nothing (call_body lost p call (suc k)))
+      subst (λ (rights : List Access). Good (Allowed (width_of p.families) rights None) (Forks p (Whole call)) Nothing (call_body lost p call (suc k)))
       (sym (ap (rights_at (objects_of p.families) call.accesses) e))
       (numbered_good call k t e (subst (λ (n : ℕ). target_at p.tasks n ≡ Some t) e is) fits)
 
@@ -267,18 +267,18 @@ module _ (lost : Script → Script) (p : Program) (ok : Parts p) where
 
   indexed_good : (call : CallTree) (i k : ℕ) (t : Target) → target_at p.tasks (suc k) ≡ Some t → FitsTarget (objects_of p.families) call t
       → i < call.length
-      → Good (Allowed p.families call.accesses (Some i)) (Forks p (Index call i)) Nothing (index_body lost p call i (task_at p.tasks k))
+      → Good (Allowed (width_of p.families) call.accesses (Some i)) (Forks p (Index call i)) Nothing (index_body lost p call i (task_at p.tasks k))
   indexed_good call i k t is fits lt = chosen (nat_lt k DEFINITIONS) (task_target p.tasks 1 k) (kernel_at (k - DEFINITIONS)) is
       (λ f. let u = task_of p.tasks 1 k t f in
-      subst (λ (y : Option Task). Good (Allowed p.families call.accesses (Some i)) (Forks p (Index call i)) Nothing (index_body lost p call i y)) (sym u.at)
+      subst (λ (y : Option Task). Good (Allowed (width_of p.families) call.accesses (Some i)) (Forks p (Index call i)) Nothing (index_body lost p call i y)) (sym u.at)
       (index_good call u.task (1 + k) i (Forks p (Index call i)) (rules_at p.tasks k u.task ok.tasks u.at)
       (subst (λ (y : Target). FitsTarget (objects_of p.families) call y) u.is fits) lt))
       (λ f. let none : call.length ≡ 0 = fits.formed (kernel_no_loop (k - DEFINITIONS) t f) in absurd (omega arith))
     where
       chosen : (b : Bool) (x y : Option Target) → (if b then x else y) ≡ Some t
-          → (x ≡ Some t → Good (Allowed p.families call.accesses (Some i)) (Forks p (Index call i)) Nothing (index_body lost p call i (task_at p.tasks k)))
-          → (y ≡ Some t → Good (Allowed p.families call.accesses (Some i)) (Forks p (Index call i)) Nothing (index_body lost p call i (task_at p.tasks k)))
-          → Good (Allowed p.families call.accesses (Some i)) (Forks p (Index call i)) Nothing (index_body lost p call i (task_at p.tasks k))
+          → (x ≡ Some t → Good (Allowed (width_of p.families) call.accesses (Some i)) (Forks p (Index call i)) Nothing (index_body lost p call i (task_at p.tasks k)))
+          → (y ≡ Some t → Good (Allowed (width_of p.families) call.accesses (Some i)) (Forks p (Index call i)) Nothing (index_body lost p call i (task_at p.tasks k)))
+          → Good (Allowed (width_of p.families) call.accesses (Some i)) (Forks p (Index call i)) Nothing (index_body lost p call i (task_at p.tasks k))
       chosen true x y h f g = f h
       chosen false x y h f g = g h
 
@@ -291,16 +291,16 @@ module _ (lost : Script → Script) (p : Program) (ok : Parts p) where
       no_target h = cc
   of_index_good call i (suc k) e (is_call t is f) lt =
       let less : call.task - 1 ≡ k = omega (arith, e) in
-      subst (λ (rights : List Access). Good (Allowed p.families rights (Some i)) (Forks p (Index call i)) Nothing
+      subst (λ (rights : List Access). Good (Allowed (width_of p.families) rights (Some i)) (Forks p (Index call i)) Nothing
       (index_body lost p call i (task_at p.tasks (call.task - 1)))) (sym (ap (rights_at (objects_of p.families) call.accesses) e))
-      (subst (λ (m : ℕ). Good (Allowed p.families call.accesses (Some i)) (Forks p (Index call i)) Nothing
+      (subst (λ (m : ℕ). Good (Allowed (width_of p.families) call.accesses (Some i)) (Forks p (Index call i)) Nothing
       (index_body lost p call i (task_at p.tasks m))) (sym less)
       (indexed_good call i k t (subst (λ (n : ℕ). target_at p.tasks n ≡ Some t) e is) f lt))
 
   job_good : (job : Job) → FitsJob p job → Good (Directly p job) (Forks p job) Nothing (job_body lost p job)
   job_good (Whole call) fits =
       good_then (Directly p (Whole call)) (Forks p (Whole call)) Nothing Nothing _ _
-      (zeros_all p.families (rights_of p call) (Forks p (Whole call)) call.accesses (among call call.task refl fits))
+      (zeros_all (width_of p.families) (rights_of p call) (Forks p (Whole call)) call.accesses (among call call.task refl fits))
       (λ _ _. after_good call call.task refl fits)
   job_good (Index call i) fits = of_index_good call i call.task refl fits.0 fits.1
 

@@ -12,7 +12,6 @@ use Rattle.kt_law.specs.declared.accesses.Access.{Access}
 use Rattle.kt_prog.specs.Calls.{CallTree, Job, Whole}
 use Rattle.kt_prog.specs.Script.{Script, Step}
 use Rattle.kt_prog.specs.Locals.{Site, bound_of, local_of}
-use Rattle.kt_prog.specs.Objects.{width_of}
 use Rattle.kt_prog.specs.Lookups.{assign, assigned, with_local, where_fine}
 use Rattle.kt_prog.specs.Values.{value_of}
 use Rattle.kt_prog.specs.Targets.{Target, target_of}
@@ -186,7 +185,7 @@ module _ (lost : Script → Script) (site : Site) (rights : List Access) (own : 
           good_then _ H (OwnAt lost site rights own H fam s (rules_of i).bare) (After s) _ _
           ((expr_keeps lost site rights own H fam i).good s st.locals line a (right_none one (breaches_in i s) first)) (λ k o.
           good_then _ H (λ (n : ℕ). Unit {0}) (After s) _ _ (number_good s st.locals line e a (right_none (one ++ breaches_in i s) (breaches_in e s) h)) (λ n _.
-          good_then _ H (λ _. nat_lt k (width_of site.families x) ≡ true) (After s) _ _ (good_test _ H _ F2 line) (λ _ lt.
+          good_then _ H (λ _. nat_lt k (site.widths x) ≡ true) (After s) _ _ (good_test _ H _ F2 line) (λ _ lt.
           good_then _ H (λ _. Unit {0}) (After s) _ _ (good_perform _ H x k (Store n)
           (allowed lost site rights own H fam f.0 x k (Store n) lt (not_false _ (not_denied place P10 _ (left_none _ _ f.1)))
           (owned lost site rights own H fam s st.locals (rules_of i).bare place f.0 k a (right_none _ _ f.1) o) f.2)) (λ _ _.
@@ -206,7 +205,7 @@ module _ (lost : Script → Script) (site : Site) (rights : List Access) (own : 
           let may = not_false (may_fold op f.0) (not_denied place P10 _ f.1) in
           good_then _ H (λ (n : ℕ). Unit {0}) (After s) _ _ (number_good s st.locals line i a (right_none one (breaches_in i s) first)) (λ k _.
           good_then _ H (λ (n : ℕ). Unit {0}) (After s) _ _ (number_good s st.locals line e a (right_none (one ++ breaches_in i s) (breaches_in e s) h)) (λ n _.
-          good_then _ H (λ _. nat_lt k (width_of site.families x) ≡ true) (After s) _ _ (good_test _ H _ F2 line) (λ _ lt.
+          good_then _ H (λ _. nat_lt k (site.widths x) ≡ true) (After s) _ _ (good_test _ H _ F2 line) (λ _ lt.
           good_then _ H (λ _. Unit {0}) (After s) _ _ (good_perform _ H x k (Fold op n)
           (allowed lost site rights own H fam f.0 x k (Fold op n) lt may (fold_owns own op f.0 k may) f.2)) (λ _ _.
           good_give _ H (After s) st a)))));

@@ -12,7 +12,6 @@ use Rattle.kt_law.specs.declared.accesses.Access.{Access}
 use Rattle.kt_prog.specs.Calls.{Job}
 use Rattle.kt_prog.specs.Script.{Script, Step}
 use Rattle.kt_prog.specs.Locals.{Site, bound_of}
-use Rattle.kt_prog.specs.Objects.{width_of}
 use Rattle.kt_prog.specs.Lookups.{number_in, object_in}
 use Rattle.kt_prog.specs.Values.{View, ExprMeaning, value_of, expr_step, applied}
 use Rattle.kt_prog.specs.Scope.{Scope, kind_of}
@@ -40,7 +39,7 @@ own_lemma (Some j) b t mode i h site rights l k = λ w.
 module _ (lost : Script → Script) (site : Site) (rights : List Access) (own : Option ℕ) (H : Job → Type 0)
     (fam : site.in_main ≡ true → FamiliesMatch site rights own) where
   abbrev pub D : Act → Type 0
-  D = Allowed site.families rights own
+  D = Allowed site.widths rights own
 
   -- where the expression is the bare name of the index, its value is the index
   abbrev pub OwnAt : Scope → Option (List ℕ) → ℕ → Type 0
@@ -89,7 +88,7 @@ module _ (lost : Script → Script) (site : Site) (rights : List Access) (own : 
   element_found rule (Some (One mode)) (Some (B.Many lo hi)) place h f = absurd f
 
   -- an act on such an object is allowed
-  pub allowed : (mode : Mode) (object i : ℕ) (deed : Deed) → nat_lt i (width_of site.families object) ≡ true → lets mode deed ≡ true
+  pub allowed : (mode : Mode) (object i : ℕ) (deed : Deed) → nat_lt i (site.widths object) ≡ true → lets mode deed ≡ true
       → Owns own mode i → HasRight site rights own mode object (suc object) → D (record { object = object; element = i; deed = deed })
   allowed mode object i deed lt l o r = (
     grind (arith, nat_tests),
@@ -123,7 +122,7 @@ module _ (lost : Script → Script) (site : Site) (rights : List Access) (own : 
         (element_found rule (kind_of s name) (bound_of site locals name) place (left_none _ _ h)
         (looked site rights own fam s locals name a)) (λ o f.
         good_then D H (OwnAt s r.bare) (OwnAt s None) _ _ (at.1.good s locals line a (right_none _ _ h)) (λ i w.
-        good_then D H (λ _. nat_lt i (width_of site.families o) ≡ true) (OwnAt s None) _ _ (good_test D H _ F2 line) (λ _ lt.
+        good_then D H (λ _. nat_lt i (site.widths o) ≡ true) (OwnAt s None) _ _ (good_test D H _ F2 line) (λ _ lt.
         forget (OwnAt s None) _ (good_load D H o i
         (allowed f.0 o i Load lt (not_false _ (not_denied place P10 _ (left_none _ _ f.1))) (owned s locals r.bare place f.0 i a (right_none _ _ f.1) w) f.2))
         (λ x e. cc))));

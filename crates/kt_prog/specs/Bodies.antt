@@ -6,6 +6,7 @@ use Rattle.kt_prog.specs.Calls.{CallTree, Job, Whole, Index}
 use Rattle.kt_prog.specs.Script.{Script, astray, Step, ◌>>=◌, ◌>>◌, give, fork}
 use Rattle.kt_prog.specs.Locals.{Site, given}
 use Rattle.kt_prog.specs.Statements.{block, stmt_of}
+use Rattle.kt_prog.specs.Objects.{width_of}
 use Rattle.kt_prog.specs.Zeroing.{zero_all}
 use Rattle.kt_prog.specs.Kernels.{kernel_body}
 use Rattle.kt_prog.specs.declared.scope.Local.{Local}
@@ -17,7 +18,7 @@ use Rattle.kt_prog.specs.declared.programs.Index as I
 use Rattle.kt_prog.specs.declared.programs.Stmt.{Stmt}
 
 abbrev pub site_of : Program → Bool → ℕ → Site
-site_of p in_main depth = record { families = p.families; tasks = p.tasks; in_main = in_main; depth = depth }
+site_of p in_main depth = record { families = p.families; tasks = p.tasks; widths = width_of p.families; in_main = in_main; depth = depth }
 
 -- the k-th task or loop, counted from 0
 abbrev pub task_at : List Task → ℕ → Option Task
@@ -72,12 +73,12 @@ module _ (lost : Script → Script) where
   call_body p call zero = main_body p p.mains
   call_body p call (suc k) =
       if nat_lt k DEFINITIONS then task_or_loop p call (task_at p.tasks k) (index_in (task_at p.tasks k))
-      else kernel_body p.families (k - DEFINITIONS) call.ints call.accesses
+      else kernel_body (width_of p.families) (k - DEFINITIONS) call.ints call.accesses
 
   -- a call's body begins with its zeroing, an index's doesn't
   abbrev pub job_body : Program → Job → Step (Unit {0})
   job_body p (Whole call) = do
-    zero_all p.families call.accesses
+    zero_all (width_of p.families) call.accesses
     call_body p call call.task
   job_body p (Index call i) = index_body p call i (task_at p.tasks (call.task - 1))
 

@@ -9,12 +9,12 @@ use Rattle.kt_prog.specs.Runs.{TaskRun, IndexRun, FaultRun}
 use Rattle.kt_prog.specs.declared.programs.Program.{Program}
 
 abbrev pub task_in : List ℕ → Job → List ℕ → List TaskRun
-task_in path (Whole call) loads = record { path = path; call = call; loads = loads } ∷ []
-task_in path (Index call i) loads = []
+task_in path (Whole call) answers = record { path = path; call = call; answers = answers } ∷ []
+task_in path (Index call i) answers = []
 
 abbrev pub index_in : List ℕ → Job → List ℕ → List IndexRun
-index_in path (Whole call) loads = []
-index_in path (Index call i) loads = record { path = path; index = i; loads = loads } ∷ []
+index_in path (Whole call) answers = []
+index_in path (Index call i) answers = record { path = path; index = i; answers = answers } ∷ []
 
 -- which index's body it is, none for the body of a call
 abbrev pub index_of : Job → Option ℕ

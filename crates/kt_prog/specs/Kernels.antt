@@ -7,8 +7,6 @@ use Rattle.kt_law.specs.declared.faults.F.TheVariants.{F2}
 use Rattle.kt_law.specs.declared.operators.Op.TheVariants.{Add, Min}
 use Rattle.kt_law.specs.declared.accesses.Access.{Access}
 use Rattle.kt_prog.specs.Script.{Step, ◌>>=◌, ◌>>◌, give, load, perform, tested}
-use Rattle.kt_prog.specs.Objects.{width_of}
-use Rattle.kt_prog.specs.declared.programs.Family.{Family}
 
 -- n elements of an object, from this one on, in rising order
 abbrev pub load_all : ℕ → ℕ → ℕ → Step (List ℕ)
@@ -35,10 +33,10 @@ object_at (a ∷ accesses) (suc k) = object_at accesses k
 abbrev pub is_side : ℕ → Bool
 is_side n = nat_le n LENGTH
 
-module _ (families : List Family) where
+module _ (widths : ℕ → ℕ) where
   -- the object has at least so many elements
   abbrev pub has : ℕ → ℕ → Bool
-  has object n = nat_le n (width_of families object)
+  has object n = nat_le n (widths object)
 
   -- an n by p tile of a and a p by q tile of b, and what f makes of them for an n by q tile of c
   abbrev pub product : (ℕ → ℕ → ℕ → List ℕ → List ℕ → List ℕ) → (ℕ → Deed) → (n p q : ℕ) → (a b c : ℕ) → Step (Unit {0})
@@ -65,7 +63,7 @@ module _ (families : List Family) where
   -- element t of s, a row of a, and the stores into a
   abbrev pub scan_body : ℕ → ℕ → ℕ → ℕ → Step (Unit {0})
   scan_body n t s a = do
-    tested (is_side n && has a n && nat_lt t (width_of families s)) F2 0
+    tested (is_side n && has a n && nat_lt t (widths s)) F2 0
     start ← load s t
     row ← load_all a 0 n
     perform_all Store a 0 (scan_of start row)

@@ -11,10 +11,11 @@ use Rattle.kt_prog.specs.declared.scope.Local.{Local}
 use Rattle.kt_prog.specs.declared.scope.Bound.{Bound}
 use Rattle.kt_prog.specs.declared.scope.Bound.TheVariants.{Number, One, Many}
 
--- where a body stands: its program, whether it is main's, and the length of its call's path
+-- where a body stands: its program, the number of elements of each object, whether it is main's, and the length of its call's path
 pub record Site : Type 0 where
   pub families : List Family
   pub tasks : List Task
+  pub widths : ℕ → ℕ
   pub in_main : Bool
   pub depth : ℕ
 

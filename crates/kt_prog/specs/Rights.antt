@@ -9,7 +9,6 @@ use Rattle.kt_prog.specs.Calls.{CallTree, Job, Whole, Index}
 use Rattle.kt_prog.specs.Objects.{width_of, objects_of}
 use Rattle.kt_prog.specs.Fits.{EachOf, Fits}
 use Rattle.kt_prog.specs.declared.programs.Program.{Program}
-use Rattle.kt_prog.specs.declared.programs.Family.{Family}
 
 abbrev pub SomeOf : (Access → Type 0) → List Access → Type 0
 SomeOf P [] = ⊥
@@ -30,8 +29,8 @@ abbrev pub Permits : Option ℕ → Act → Access → Type 0
 Permits own act a = (a.lo ≤ act.object) × (act.object < a.hi) × (lets a.mode act.deed ≡ true) × Owns own a.mode act.element
 
 -- an act that one of the rights permits, on an element that is there
-abbrev pub Allowed : List Family → List Access → Option ℕ → Act → Type 0
-Allowed families rights own act = (act.element < width_of families act.object) × SomeOf (Permits own act) rights
+abbrev pub Allowed : (ℕ → ℕ) → List Access → Option ℕ → Act → Type 0
+Allowed widths rights own act = (act.element < widths act.object) × SomeOf (Permits own act) rights
 
 -- b is part of a, and a hands it on
 abbrev pub Covers : Access → Access → Type 0
@@ -53,8 +52,8 @@ pub record HandsOn (p : Program) (rights : List Access) (depth : ℕ) (call : Ca
 
 -- what a body may do itself
 abbrev pub Directly : Program → Job → Act → Type 0
-Directly p (Whole call) act = Allowed p.families (rights_of p call) None act
-Directly p (Index call i) act = Allowed p.families (rights_of p call) (Some i) act
+Directly p (Whole call) act = Allowed (width_of p.families) (rights_of p call) None act
+Directly p (Index call i) act = Allowed (width_of p.families) (rights_of p call) (Some i) act
 
 -- what a body may fork: a call, or an index of its own; an index forks nothing
 abbrev pub Forks : Program → Job → Job → Type 0

@@ -3,17 +3,17 @@ use Rattle.std.specs.Prelude.{ℕ, List, Option}
 use Rattle.kt_law.specs.declared.faults.F.{F}
 use Rattle.kt_prog.specs.Calls.{CallTree}
 
--- a task, and the numbers that the loads of its body found
+-- a task, and what the operations of its body answered
 pub record TaskRun : Type 0 where
   pub path : List ℕ
   pub call : CallTree
-  pub loads : List ℕ
+  pub answers : List ℕ
 
 -- an index of a loop
 pub record IndexRun : Type 0 where
   pub path : List ℕ
   pub index : ℕ
-  pub loads : List ℕ
+  pub answers : List ℕ
 
 -- a fault of a task's body or of an index, with the line of the statement that met it
 pub record FaultRun : Type 0 where

@@ -3,7 +3,6 @@ use Rattle.std.specs.Prelude.{ℕ, List, Option, Some, None, nat_lt}
 use Rattle.kt_law.specs.Operators.{apply_of}
 use Rattle.kt_law.specs.declared.faults.F.TheVariants.{F1, F2}
 use Rattle.kt_prog.specs.Script.{Script, Step, ◌>>=◌, ◌>>◌, give, stop, load, tested}
-use Rattle.kt_prog.specs.Objects.{width_of}
 use Rattle.kt_prog.specs.Locals.{Site, bound_of}
 use Rattle.kt_prog.specs.Lookups.{number_in, object_in}
 use Rattle.kt_prog.specs.declared.scope.Local.{Local}
@@ -18,7 +17,7 @@ pub record View : Type 0 where
 
 -- F2 where the element's number isn't below the object's number of elements
 abbrev pub element_within : View → ℕ → ℕ → Step (Unit {0})
-element_within v object i = tested (nat_lt i (width_of v.site.families object)) F2 v.line
+element_within v object i = tested (nat_lt i (v.site.widths object)) F2 v.line
 
 -- F1 where the operator has no value
 abbrev pub applied : Option ℕ → ℕ → Step ℕ

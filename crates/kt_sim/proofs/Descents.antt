@@ -7,8 +7,8 @@ use Rattle.kt_law.specs.declared.limits.TheConstants.{DEPTH}
 use Rattle.kt_order.specs.Paths.{same_path, shift, IsThere}
 use Rattle.kt_order.proofs.Squares.{same_is}
 use Rattle.kt_frames.proofs.Forking.{both}
-use Rattle.kt_core.specs.Tables.{TaskRow, CoreState, parent_of, is_root, is_child, are_siblings, is_open, first_from, open_before, open_child}
-use Rattle.kt_core.specs.TableLaws.{IsLawfulTable, IsLawfulState}
+use Rattle.kt_tables.specs.Tables.{TaskRow, CoreState, parent_of, is_root, is_child, are_siblings, is_open, first_from, open_before, open_child}
+use Rattle.kt_tables.specs.TableLaws.{IsLawfulTable, IsLawfulState}
 use Rattle.kt_sim.specs.Turns.{IsFirst, depth_at, depth_of}
 use Rattle.kt_sim.proofs.Events.{row_there}
 

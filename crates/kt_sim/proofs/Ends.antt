@@ -12,11 +12,11 @@ use Rattle.kt_body.specs.Starts.{IsTask}
 use Rattle.kt_body.specs.declared.ops.Ended.{Ended}
 use Rattle.kt_body.specs.declared.ops.Ended.TheVariants as D
 use Rattle.kt_frames.proofs.Turns.{no_loop}
-use Rattle.kt_core.specs.Tables.{TaskRow, CoreState}
-use Rattle.kt_core.specs.TableEvents.{CanAsk, row_after, added_by, state_after}
-use Rattle.kt_core.specs.TableLaws.{IsLawfulState}
-use Rattle.kt_core.specs.declared.events.Event.TheVariants as E
-use Rattle.kt_core.specs.declared.events.Phase.TheVariants as P
+use Rattle.kt_tables.specs.Tables.{TaskRow, CoreState}
+use Rattle.kt_tables.specs.TableEvents.{CanAsk, row_after, added_by, state_after}
+use Rattle.kt_tables.specs.TableLaws.{IsLawfulState}
+use Rattle.kt_tables.specs.declared.events.Event.TheVariants as E
+use Rattle.kt_tables.specs.declared.events.Phase.TheVariants as P
 use Rattle.kt_sim.specs.declared.operations.Simulation.{Simulation}
 use Rattle.kt_sim.specs.declared.operations.Stop.{Stop}
 use Rattle.kt_sim.specs.declared.operations.Stop.TheVariants as S

@@ -1,12 +1,12 @@
 -- What a claim or a finish makes of a simulated run.
 use Rattle.std.proofs.Common.{◌≡◌, ◌<◌, ℕ, zero, suc, Bool, true, false, cond, ◌||◌, List, [], ◌∷◌, length, Option, Some, None, refl, sym, ap, ◌∙◌, subst, arith, slice_get, length-set}
-use Rattle.kt_core.specs.Tables.{TaskRow, CoreState}
-use Rattle.kt_core.specs.TableEvents.{task_of, is_unclaimed, is_ended, is_looping, wants, refusal, refusal_at, refusal_of, in_phase, with_row, after_at, state_after}
-use Rattle.kt_core.specs.declared.events.Event.{Event}
-use Rattle.kt_core.specs.declared.events.Event.TheVariants as E
-use Rattle.kt_core.specs.declared.events.Phase.{Phase}
-use Rattle.kt_core.specs.declared.events.Phase.TheVariants as P
-use Rattle.kt_core.specs.declared.events.Why.{Why}
+use Rattle.kt_tables.specs.Tables.{TaskRow, CoreState}
+use Rattle.kt_tables.specs.TableEvents.{task_of, is_unclaimed, is_ended, is_looping, wants, refusal, refusal_at, refusal_of, in_phase, with_row, after_at, state_after}
+use Rattle.kt_tables.specs.declared.events.Event.{Event}
+use Rattle.kt_tables.specs.declared.events.Event.TheVariants as E
+use Rattle.kt_tables.specs.declared.events.Phase.{Phase}
+use Rattle.kt_tables.specs.declared.events.Phase.TheVariants as P
+use Rattle.kt_tables.specs.declared.events.Why.{Why}
 use Rattle.kt_sim.specs.Simulated.{IsTaskCall, is_before_end, IsStill, IsSound, IsCalm, rank, ranks}
 use Rattle.kt_sim.specs.Turns.{IsOutside, Leads}
 use Rattle.kt_sim.proofs.Rows.{each_set, ranks_set}
@@ -20,7 +20,7 @@ row_there (r ∷ tasks) (suc t) lt = row_there tasks t (omega arith)
 pub wanted : (test : Phase → Bool) (phase : Phase) (rest : Option Why) → wants test phase rest ≡ None → (test phase ≡ true) × (rest ≡ None)
 wanted test phase rest h = chosen (test phase) refl h
   where
-    chosen : (b : Bool) → test phase ≡ b → cond b rest (Some (Rattle.kt_core.specs.declared.events.Why.TheVariants.Found phase)) ≡ None → (test phase ≡ true) × (rest ≡ None)
+    chosen : (b : Bool) → test phase ≡ b → cond b rest (Some (Rattle.kt_tables.specs.declared.events.Why.TheVariants.Found phase)) ≡ None → (test phase ≡ true) × (rest ≡ None)
     chosen true is e = (is, e)
     chosen false is e = cc
 

@@ -11,9 +11,9 @@ use Rattle.kt_prog.specs.declared.programs.Program.{Program}
 use Rattle.kt_prog.specs.declared.runs.Outcome.{Outcome}
 use Rattle.kt_prog.specs.declared.runs.Outcome.TheVariants as N
 use Rattle.kt_prog.specs.declared.runs.Ran.{Ran}
-use Rattle.kt_core.specs.Theorems.{whole_at}
-use Rattle.kt_core.specs.Tables.{TaskRow, CoreState, fault_of_row, fault_run}
-use Rattle.kt_core.specs.TableLaws.{faults_in}
+use Rattle.kt_runs.specs.Theorems.{whole_at}
+use Rattle.kt_tables.specs.Tables.{TaskRow, CoreState, fault_of_row, fault_run}
+use Rattle.kt_tables.specs.TableLaws.{faults_in}
 use Rattle.kt_sim.specs.Answering.{lesser, least_with, limit_ran}
 
 drop_one : (tasks : List TaskRow) (k : ℕ) (r : TaskRow) → slice_get tasks k ≡ Some r → drop k tasks ≡ r ∷ drop (suc k) tasks

@@ -11,8 +11,8 @@ use Rattle.kt_prog.specs.declared.programs.Program.{Program}
 use Rattle.kt_prog.proofs.LastWriter.{opened_length}
 use Rattle.kt_frames.specs.OnlyTasks.{HasOnlyTasks}
 use Rattle.kt_frames.proofs.Turns.{no_loop}
-use Rattle.kt_core.specs.Tables.{TaskRow, CoreState, opening_state, fresh_row}
-use Rattle.kt_core.specs.TableLaws.{HasNoLoops}
+use Rattle.kt_tables.specs.Tables.{TaskRow, CoreState, opening_state, fresh_row}
+use Rattle.kt_tables.specs.TableLaws.{HasNoLoops}
 use Rattle.kt_sim.specs.Simulated.{IsTaskCall, IsStill, IsCalm}
 use Rattle.kt_prog.specs.Calls.{main_call}
 

@@ -22,9 +22,9 @@ use Rattle.kt_body.proofs.Rightful.{next_is_rightful}
 use Rattle.kt_frames.specs.OnlyTasks.{HasOnlyTasks}
 use Rattle.kt_frames.proofs.Forking.{Free}
 use Rattle.kt_frames.proofs.TaskBodies.{NoKernel, forks_no_kernel}
-use Rattle.kt_core.specs.Tables.{TaskRow, CoreState, fresh_row, next_child}
-use Rattle.kt_core.specs.TableEvents.{CanAsk, FindsRoom, IsDue, row_after, store_after, added_by, after_at, Finds, state_after}
-use Rattle.kt_core.specs.declared.events.Event.TheVariants as E
+use Rattle.kt_tables.specs.Tables.{TaskRow, CoreState, fresh_row, next_child}
+use Rattle.kt_tables.specs.TableEvents.{CanAsk, FindsRoom, IsDue, row_after, store_after, added_by, after_at, Finds, state_after}
+use Rattle.kt_tables.specs.declared.events.Event.TheVariants as E
 use Rattle.kt_sim.specs.declared.operations.Simulation.{Simulation}
 use Rattle.kt_sim.specs.declared.operations.Stop.{Stop as Halt}
 use Rattle.kt_sim.specs.declared.operations.Stop.TheVariants as S

@@ -1,9 +1,9 @@
 -- Lists of tasks after a task was changed and others were added.
 use Rattle.std.proofs.Common.{◌≡◌, ◌≢◌, ◌≤◌, ℕ, zero, suc, ◌+◌, ◌*◌, List, [], ◌∷◌, ◌++◌, length, Some, refl, ap, subst, arith, slice_get, slice_set}
-use Rattle.kt_core.specs.Tables.{TaskRow}
+use Rattle.kt_tables.specs.Tables.{TaskRow}
 use Rattle.kt_sim.specs.Simulated.{EachRow, rank, ranks}
-use Rattle.kt_core.specs.declared.events.Phase.{Phase}
-use Rattle.kt_core.specs.declared.events.Phase.TheVariants as P
+use Rattle.kt_tables.specs.declared.events.Phase.{Phase}
+use Rattle.kt_tables.specs.declared.events.Phase.TheVariants as P
 
 pub get_same : (tasks : List TaskRow) (t : ℕ) (r s : TaskRow) → slice_get tasks t ≡ Some r → slice_get (slice_set tasks t s) t ≡ Some s
 get_same [] t r s e = cc

@@ -1,11 +1,11 @@
 -- The turns of a simulated run.
 use Rattle.std.proofs.Common.{◌≡◌, ◌<◌, ℕ, Bool, true, false, not, cond, ◌||◌, List, Option, Some, None, Result, Ok, refl, sym, ap, ◌∙◌, subst, arith, slice_get, option_map}
-use Rattle.kt_core.specs.Tables.{TaskRow, CoreState, is_finished, open_before, open_child}
-use Rattle.kt_core.specs.TableEvents.{is_unclaimed, is_ended, is_looping, wants, refusal, refusal_at}
-use Rattle.kt_core.specs.declared.events.Event.TheVariants as E
-use Rattle.kt_core.specs.declared.events.Phase.{Phase}
-use Rattle.kt_core.specs.declared.events.Phase.TheVariants as P
-use Rattle.kt_core.specs.declared.events.Why.TheVariants as W
+use Rattle.kt_tables.specs.Tables.{TaskRow, CoreState, is_finished, open_before, open_child}
+use Rattle.kt_tables.specs.TableEvents.{is_unclaimed, is_ended, is_looping, wants, refusal, refusal_at}
+use Rattle.kt_tables.specs.declared.events.Event.TheVariants as E
+use Rattle.kt_tables.specs.declared.events.Phase.{Phase}
+use Rattle.kt_tables.specs.declared.events.Phase.TheVariants as P
+use Rattle.kt_tables.specs.declared.events.Why.TheVariants as W
 use Rattle.kt_sim.specs.declared.operations.Stop.{Stop}
 use Rattle.kt_sim.specs.Simulated.{IsCalm, GoesOn, IsInPhase, ranks}
 use Rattle.kt_sim.specs.Turns.{IsFree, IsFreeIn, IsFirst, Tries, left_in}

@@ -11,10 +11,10 @@ use Rattle.kt_prog.specs.declared.runs.Operation.TheVariants as O
 use Rattle.kt_body.specs.declared.ops.Ended.{Ended}
 use Rattle.kt_body.specs.declared.ops.Ended.TheVariants as D
 use Rattle.kt_frames.specs.OnlyTasks.{HasOnlyTasks}
-use Rattle.kt_core.specs.Tables.{TaskRow, CoreState}
-use Rattle.kt_core.specs.TableEvents.{Finds}
-use Rattle.kt_core.specs.declared.events.Phase.{Phase}
-use Rattle.kt_core.specs.declared.events.Phase.TheVariants as P
+use Rattle.kt_tables.specs.Tables.{TaskRow, CoreState}
+use Rattle.kt_tables.specs.TableEvents.{Finds}
+use Rattle.kt_tables.specs.declared.events.Phase.{Phase}
+use Rattle.kt_tables.specs.declared.events.Phase.TheVariants as P
 use Rattle.kt_sim.specs.declared.operations.Simulation.{Simulation}
 use Rattle.kt_sim.specs.declared.operations.Stop.{Stop}
 use Rattle.kt_sim.specs.declared.operations.Stop.TheVariants as S

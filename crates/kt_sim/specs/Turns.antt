@@ -1,11 +1,11 @@
 -- The turns of a simulated run.
 use Rattle.std.specs.Prelude.{◌≡◌, ◌<◌, ◌-◌, ◌*◌, ℕ, List, length, Bool, true, false, Option, Some, None, Result, Ok, Err, slice_get}
 use Rattle.kt_law.specs.declared.limits.TheConstants.{TASKS}
-use Rattle.kt_core.specs.Tables.{TaskRow, CoreState, MainIsFinished, is_open, open_before, open_child}
-use Rattle.kt_core.specs.declared.events.Event.{Event}
-use Rattle.kt_core.specs.declared.events.Event.TheVariants as E
-use Rattle.kt_core.specs.declared.events.Phase.{Phase}
-use Rattle.kt_core.specs.declared.events.Phase.TheVariants as P
+use Rattle.kt_tables.specs.Tables.{TaskRow, CoreState, MainIsFinished, is_open, open_before, open_child}
+use Rattle.kt_tables.specs.declared.events.Event.{Event}
+use Rattle.kt_tables.specs.declared.events.Event.TheVariants as E
+use Rattle.kt_tables.specs.declared.events.Phase.{Phase}
+use Rattle.kt_tables.specs.declared.events.Phase.TheVariants as P
 use Rattle.kt_sim.specs.declared.operations.Stop.{Stop}
 use Rattle.kt_sim.specs.declared.operations.Stop.TheVariants as S
 use Rattle.kt_sim.specs.Simulated.{IsCalm, Follows, ranks}

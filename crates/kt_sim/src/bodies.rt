@@ -1,6 +1,6 @@
 // Whole bodies.
 ghost use Rattle.kt_sim.specs.Simulated.{EndsWith, GoesOn, IsCalm, IsEnd, IsInPhase, IsLast};
-ghost use Rattle.kt_core.specs.declared.events.Phase.TheVariants.{Running};
+ghost use Rattle.kt_tables.specs.declared.events.Phase.TheVariants.{Running};
 
 use crate::operations::{Simulation, Stop};
 use kt_body::{Ended, run_body};

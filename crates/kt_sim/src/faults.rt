@@ -1,6 +1,6 @@
 // The least fault of a run.
 ghost use Rattle.std.specs.Prelude.{◌≡◌, None};
-ghost use Rattle.kt_core.specs.TableLaws.{faults_in};
+ghost use Rattle.kt_tables.specs.TableLaws.{faults_in};
 ghost use Rattle.kt_sim.specs.Answering.{least_with, lesser};
 
 use kt_core::Core;

@@ -8,7 +8,7 @@ ghost use Rattle.kt_prog.specs.declared.runs.Outcome.TheVariants.{Limit, Rows};
 ghost use Rattle.kt_frames.specs.OnlyTasks.{HasOnlyTasks};
 ghost use Rattle.kt_sim.specs.Answering.{limit_ran};
 ghost use Rattle.kt_sim.specs.Simulated.{IsCalm};
-ghost use Rattle.kt_core.specs.Tables.{MainIsFinished};
+ghost use Rattle.kt_tables.specs.Tables.{MainIsFinished};
 
 use crate::choices::Choices;
 use crate::faults::least_fault;

@@ -2,9 +2,9 @@
 ghost use Rattle.std.specs.Prelude.{◌≡◌, ◌<◌, All, None, length, IfOk};
 ghost use Rattle.kt_sim.specs.Choosing.{AreBelow};
 ghost use Rattle.kt_sim.specs.Simulated.{GoesOn, IsCalm, IsInPhase};
-ghost use Rattle.kt_core.specs.TableEvents.{refusal, task_of};
-ghost use Rattle.kt_core.specs.declared.events.Event.TheVariants.{Finish};
-ghost use Rattle.kt_core.specs.declared.events.Phase.TheVariants.{Running};
+ghost use Rattle.kt_tables.specs.TableEvents.{refusal, task_of};
+ghost use Rattle.kt_tables.specs.declared.events.Event.TheVariants.{Finish};
+ghost use Rattle.kt_tables.specs.declared.events.Phase.TheVariants.{Running};
 ghost use Rattle.kt_sim.specs.Turns.{Ends, IsFree, IsOpen, IsOutside, Reaches, Does, Tries};
 
 use crate::bodies::run_task;

@@ -1,20 +1,20 @@
 // The events of a core, one kind a function.
 ghost use Rattle.std.specs.Prelude.{◌≡◌, ◌<◌, IfErr, IfOk, None, Some, length, slice_get};
-ghost use Rattle.kt_core.specs.Tables.{TaskRow};
+ghost use Rattle.kt_tables.specs.Tables.{TaskRow};
 ghost use Rattle.kt_body.specs.Laws.{IsOnElement};
 ghost use Rattle.kt_core.specs.Steps.{EventsKeepStatesLawful, Goes, IsNoFork, Steps, acted};
-ghost use Rattle.kt_core.specs.TableEvents.{CanAsk, Replies, is_looping, refusal, state_after, wants};
-ghost use Rattle.kt_core.specs.declared.events.Event.TheVariants as event_is;
+ghost use Rattle.kt_tables.specs.TableEvents.{CanAsk, Replies, is_looping, refusal, state_after, wants};
+ghost use Rattle.kt_tables.specs.declared.events.Event.TheVariants as event_is;
 ghost use Rattle.kt_prog.specs.declared.runs.Operation.TheVariants as operation_is;
 
-use crate::events::{Event, Phase, Why};
 use crate::links::add_child;
 use crate::rows::Row;
 use crate::running::Core;
-use crate::tables::events_keep_tables_lawful;
 use kt_body::laws::{next_is_on_element, next_is_rightful};
 use kt_prog::{Call, Operation};
 use kt_store::PlainStore;
+use kt_tables::laws::events_keep_tables_lawful;
+use kt_tables::{Event, Phase, Why};
 
 impl<'a> Core<'a> {
     /// Does an event, or tells why it cannot be done. Want of memory is told last, and only of an event that could be done.

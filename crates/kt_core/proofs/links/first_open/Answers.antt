@@ -1,7 +1,7 @@
 -- A turn of the search: the number is past the bound, or that of a task that is not finished, or the search goes on behind it.
 use Rattle.std.proofs.Common.{◌≡◌, ◌<◌, ◌∙◌, refl, sym, ap, not, true, false, arith, length, get_or}
 use Rattle.std.proofs.lemmas.Option.{slice_get_read}
-use Rattle.kt_core.specs.Tables.{is_finished, is_open}
+use Rattle.kt_tables.specs.Tables.{is_finished, is_open}
 use Rattle.kt_core.proofs.Searches.{first_below_past, first_below_found, first_below_next}
 use Rattle.kt_core.proofs.links.first_open.Goals as goal
 

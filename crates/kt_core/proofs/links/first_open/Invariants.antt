@@ -1,5 +1,5 @@
 use Rattle.std.proofs.Common.{◌≡◌, drop}
-use Rattle.kt_core.specs.Tables.{is_open}
+use Rattle.kt_tables.specs.Tables.{is_open}
 use Rattle.kt_core.specs.Links.{first_below}
 use Rattle.kt_core.proofs.links.first_open.Given as goal
 

@@ -3,8 +3,8 @@ use Rattle.std.proofs.Common.{◌∙◌, ap}
 use Rattle.kt_prog.specs.Calls.{Whole}
 use Rattle.kt_prog.specs.Fits.{is_main}
 use Rattle.kt_prog.specs.declared.runs.Operation.TheVariants as O
-use Rattle.kt_core.specs.TableEvents.{state_after}
-use Rattle.kt_core.specs.declared.events.Event.TheVariants as E
+use Rattle.kt_tables.specs.TableEvents.{state_after}
+use Rattle.kt_tables.specs.declared.events.Event.TheVariants as E
 use Rattle.kt_core.proofs.Driven.{can_ask_body, end_due, main_stands}
 use Rattle.kt_core.proofs.tests.main_has_run.Goals as goal
 

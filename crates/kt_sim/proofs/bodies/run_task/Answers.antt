@@ -1,6 +1,6 @@
 -- A body begins where its task has done nothing; what stopped it, or its end, tells the rest.
 use Rattle.std.proofs.Common.{◌≡◌, None, Some, refl, ◌∙◌, slice_get}
-use Rattle.kt_core.specs.Tables.{TaskRow}
+use Rattle.kt_tables.specs.Tables.{TaskRow}
 use Rattle.kt_sim.proofs.Ends.{begins_in, stopped, ends_with, goes_on_after}
 use Rattle.kt_sim.proofs.bodies.run_task.Goals as goal
 

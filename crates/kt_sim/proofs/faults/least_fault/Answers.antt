@@ -1,6 +1,6 @@
 use Rattle.std.proofs.Common.{◌≡◌, ◌<◌, ◌+◌, suc, length, ap, ◌∙◌, arith, drop}
 use Rattle.kt_sim.specs.Answering.{lesser, least_with}
-use Rattle.kt_core.specs.TableLaws.{faults_in}
+use Rattle.kt_tables.specs.TableLaws.{faults_in}
 use Rattle.kt_sim.proofs.Events.{row_there}
 use Rattle.kt_sim.proofs.LeastFaults.{least_step}
 use Rattle.kt_sim.proofs.faults.least_fault.Goals as goal

@@ -1,6 +1,6 @@
 use Rattle.std.proofs.Common.{◌≡◌, None, drop}
 use Rattle.kt_sim.specs.Answering.{least_with}
-use Rattle.kt_core.specs.TableLaws.{faults_in}
+use Rattle.kt_tables.specs.TableLaws.{faults_in}
 use Rattle.kt_sim.proofs.faults.least_fault.Given as goal
 
 abbrev pub invariant-loop-task : goal.invariant-loop-task

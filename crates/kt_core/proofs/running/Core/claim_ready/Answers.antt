@@ -1,9 +1,9 @@
 -- The task is unclaimed, and the search among its frame decides.
 use Rattle.std.proofs.Common.{◌≡◌, ◌∙◌, ap, sym, refl, subst, true}
-use Rattle.kt_core.specs.TableEvents.{is_unclaimed}
-use Rattle.kt_core.specs.TableLaws.{IsLawfulState}
-use Rattle.kt_core.specs.declared.events.Event.TheVariants as E
-use Rattle.kt_core.specs.declared.events.Phase.TheVariants as P
+use Rattle.kt_tables.specs.TableEvents.{is_unclaimed}
+use Rattle.kt_tables.specs.TableLaws.{IsLawfulState}
+use Rattle.kt_tables.specs.declared.events.Event.TheVariants as E
+use Rattle.kt_tables.specs.declared.events.Phase.TheVariants as P
 use Rattle.kt_core.proofs.Linking.{get_there}
 use Rattle.kt_core.proofs.Rephasing.{ready_is, ready_refusal, unclaimed_stays}
 use Rattle.kt_core.proofs.running.Core.claim_ready.Goals as goal

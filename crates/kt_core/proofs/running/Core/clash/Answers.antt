@@ -2,7 +2,7 @@
 use Rattle.std.proofs.Common.{◌≡◌, ◌<◌, ◌∙◌, ap, sym, subst, length, List, ℕ, Some, refl}
 use Rattle.std.specs.List.{All, slice_get}
 use Rattle.std.proofs.lemmas.Option.{slice_get_read, slice_get_within, same_Some}
-use Rattle.kt_core.specs.Tables.{CoreState, TaskRow}
+use Rattle.kt_tables.specs.Tables.{CoreState, TaskRow}
 use Rattle.kt_core.specs.Links.{first_below, is_in_the_way, siblings_of}
 use Rattle.kt_prog.specs.Calls.{CallTree}
 use Rattle.kt_core.proofs.Settling.{way_ends}

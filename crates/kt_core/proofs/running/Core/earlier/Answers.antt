@@ -1,7 +1,7 @@
 -- The search goes through the tasks of the frame.
 use Rattle.std.proofs.Common.{◌≡◌, ◌<◌, ◌∙◌, ap, sym, subst, length, List, ℕ}
 use Rattle.std.specs.List.{All}
-use Rattle.kt_core.specs.Tables.{CoreState, TaskRow, is_open}
+use Rattle.kt_tables.specs.Tables.{CoreState, TaskRow, is_open}
 use Rattle.kt_core.specs.Links.{first_below}
 use Rattle.kt_core.proofs.Settling.{open_ends}
 use Rattle.kt_core.proofs.Frames.{first_open_before}

@@ -1,10 +1,10 @@
 -- The body has ended, and the search among the children decides.
 use Rattle.std.proofs.Common.{◌≡◌, ◌∙◌, ap, sym, refl, subst, true, ◌||◌}
-use Rattle.kt_core.specs.TableEvents.{is_ended, is_looping}
-use Rattle.kt_core.specs.TableLaws.{IsLawfulState}
-use Rattle.kt_core.specs.declared.events.Event.TheVariants as E
-use Rattle.kt_core.specs.declared.events.Phase.{Phase}
-use Rattle.kt_core.specs.declared.events.Phase.TheVariants as P
+use Rattle.kt_tables.specs.TableEvents.{is_ended, is_looping}
+use Rattle.kt_tables.specs.TableLaws.{IsLawfulState}
+use Rattle.kt_tables.specs.declared.events.Event.TheVariants as E
+use Rattle.kt_tables.specs.declared.events.Phase.{Phase}
+use Rattle.kt_tables.specs.declared.events.Phase.TheVariants as P
 use Rattle.kt_core.proofs.Linking.{get_there}
 use Rattle.kt_core.proofs.Rephasing.{finish_is, finish_refusal, rephased_there}
 use Rattle.kt_core.proofs.running.Core.finish.Goals as goal

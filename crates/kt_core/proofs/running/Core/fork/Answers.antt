@@ -5,9 +5,9 @@ use Rattle.std.proofs.lemmas.Option.{slice_get_read, slice_get_within, same_Some
 use Rattle.kt_prog.specs.declared.runs.Operation.TheVariants as O
 use Rattle.kt_core.specs.Sound.{seen}
 use Rattle.kt_core.specs.Steps.{Goes}
-use Rattle.kt_core.specs.Tables.{CoreState, TaskRow}
-use Rattle.kt_core.specs.TableEvents.{went_on}
-use Rattle.kt_core.specs.declared.events.Event.TheVariants as E
+use Rattle.kt_tables.specs.Tables.{CoreState, TaskRow}
+use Rattle.kt_tables.specs.TableEvents.{went_on}
+use Rattle.kt_tables.specs.declared.events.Event.TheVariants as E
 use Rattle.kt_core.proofs.Changes.{child_is, few_children, grown_is, grown_sound, path_short}
 use Rattle.kt_core.proofs.Linking.{children_by_links, get_front, links_as_rows}
 use Rattle.kt_core.proofs.running.Core.fork.Goals as goal

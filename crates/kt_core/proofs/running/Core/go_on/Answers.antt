@@ -4,8 +4,8 @@ use Rattle.std.specs.List.{slice_get}
 use Rattle.std.proofs.lemmas.Option.{slice_get_read}
 use Rattle.kt_core.specs.Sound.{seen}
 use Rattle.kt_core.specs.Steps.{Goes}
-use Rattle.kt_core.specs.Tables.{CoreState}
-use Rattle.kt_core.specs.declared.events.Event.TheVariants as E
+use Rattle.kt_tables.specs.Tables.{CoreState}
+use Rattle.kt_tables.specs.declared.events.Event.TheVariants as E
 use Rattle.kt_core.proofs.Changes.{moved_is, moved_sound, on_element}
 use Rattle.kt_core.proofs.running.Core.go_on.Goals as goal
 

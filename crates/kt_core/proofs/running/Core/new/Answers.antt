@@ -2,7 +2,7 @@
 use Rattle.std.proofs.Common.{◌≡◌, ◌∙◌, ap, sym, subst, ℕ, List, [], ◌∷◌, ◌++◌, None}
 use Rattle.kt_prog.specs.Calls.{main_call}
 use Rattle.kt_core.specs.Links.{IsSound, LinkState, fresh_links}
-use Rattle.kt_core.specs.Tables.{CoreState, TaskRow, fresh_row, opening_state}
+use Rattle.kt_tables.specs.Tables.{CoreState, TaskRow, fresh_row, opening_state}
 use Rattle.kt_core.proofs.Opening.{opened_is, opening_sound}
 use Rattle.kt_core.proofs.running.Core.new.Goals as goal
 

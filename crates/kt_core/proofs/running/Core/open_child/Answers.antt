@@ -3,7 +3,7 @@ use Rattle.std.proofs.Common.{◌≡◌, ◌<◌, ◌∙◌, ap, sym, refl, subs
 use Rattle.std.specs.List.{All, slice_get}
 use Rattle.std.proofs.lemmas.Option.{slice_get_read}
 use Rattle.std.proofs.lemmas.List.Elements.{All-drop}
-use Rattle.kt_core.specs.Tables.{CoreState, TaskRow, is_child, is_open, open_child}
+use Rattle.kt_tables.specs.Tables.{CoreState, TaskRow, is_child, is_open, open_child}
 use Rattle.kt_core.specs.Links.{first_below}
 use Rattle.kt_core.proofs.Linking.{get_there, links_as_rows, children_by_links}
 use Rattle.kt_core.proofs.Searches.{numbers_of_rows}

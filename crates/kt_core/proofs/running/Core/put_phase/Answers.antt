@@ -3,8 +3,8 @@ use Rattle.std.proofs.Common.{◌≡◌, ◌∙◌, true, ap, sym, refl, subst, 
 use Rattle.std.specs.List.{slice_get}
 use Rattle.std.proofs.lemmas.Option.{slice_get_read}
 use Rattle.kt_core.specs.Sound.{seen}
-use Rattle.kt_core.specs.Tables.{CoreState, TaskRow, is_finished}
-use Rattle.kt_core.specs.TableLaws.{IsLawfulState}
+use Rattle.kt_tables.specs.Tables.{CoreState, TaskRow, is_finished}
+use Rattle.kt_tables.specs.TableLaws.{IsLawfulState}
 use Rattle.kt_core.proofs.Changes.{changed_sound, rephased_is}
 use Rattle.kt_core.proofs.running.Core.put_phase.Goals as goal
 

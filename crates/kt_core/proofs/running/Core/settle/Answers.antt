@@ -1,7 +1,7 @@
 -- The parent is a task.
 use Rattle.std.proofs.Common.{◌≡◌, ◌<◌, ◌∙◌, ap, sym, refl, length, arith}
 use Rattle.std.proofs.lemmas.Option.{slice_get_read}
-use Rattle.kt_core.specs.Tables.{CoreState}
+use Rattle.kt_tables.specs.Tables.{CoreState}
 use Rattle.kt_core.proofs.Linking.{links_as_rows, parent_within}
 use Rattle.kt_core.proofs.running.Core.settle.Goals as goal
 

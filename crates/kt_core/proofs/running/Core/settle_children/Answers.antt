@@ -3,7 +3,7 @@ use Rattle.std.proofs.Common.{◌≡◌, ◌≤◌, ◌<◌, ◌∙◌, ap, sym,
 use Rattle.std.specs.List.{All}
 use Rattle.std.proofs.lemmas.Option.{slice_get_read}
 use Rattle.kt_core.specs.Sound.{seen}
-use Rattle.kt_core.specs.Tables.{CoreState, TaskRow, is_child}
+use Rattle.kt_tables.specs.Tables.{CoreState, TaskRow, is_child}
 use Rattle.kt_core.specs.Links.{AreDone}
 use Rattle.kt_core.proofs.Linking.{get_there, links_as_rows, children_by_links}
 use Rattle.kt_core.proofs.Searches.{numbers_of_rows}

@@ -2,7 +2,7 @@
 use Rattle.std.proofs.Common.{◌≡◌, ◌<◌, ◌∙◌, ap, sym, refl, subst, length, ℕ, List, Some, arith, []}
 use Rattle.std.specs.List.{slice_get}
 use Rattle.std.proofs.lemmas.Option.{slice_get_read}
-use Rattle.kt_core.specs.Tables.{CoreState, TaskRow, are_siblings}
+use Rattle.kt_tables.specs.Tables.{CoreState, TaskRow, are_siblings}
 use Rattle.kt_core.specs.Links.{FindsAlike, first_below, siblings_of}
 use Rattle.kt_core.proofs.Linking.{get_there, links_as_rows, parent_within, siblings_by_parent, siblings_of_root}
 use Rattle.kt_core.proofs.Settling.{left_finds, left_there}

@@ -1,7 +1,7 @@
 -- No task is a loop, so none begins one; and what an event of a loop is answered is that of any event that wants a task that loops.
 use Rattle.std.proofs.Common.{◌∙◌, sym, subst}
-use Rattle.kt_core.specs.TableEvents.{CanAsk}
-use Rattle.kt_core.specs.declared.events.Event.{Event}
+use Rattle.kt_tables.specs.TableEvents.{CanAsk}
+use Rattle.kt_tables.specs.declared.events.Event.{Event}
 use Rattle.kt_core.proofs.Linking.{get_there}
 use Rattle.kt_core.proofs.running.Core.step.Goals as goal
 

@@ -2,7 +2,7 @@
 use Rattle.std.proofs.Common.{◌≡◌, ◌+◌, ◌++◌, sym, subst}
 use Rattle.kt_prog.specs.Operations.{heard}
 use Rattle.kt_core.specs.Driven.{StandsAt}
-use Rattle.kt_core.specs.Tables.{CoreState}
+use Rattle.kt_tables.specs.Tables.{CoreState}
 use Rattle.kt_core.proofs.Driven.{stands_after}
 use Rattle.kt_core.proofs.tests.Doing.go.Goals as goal
 

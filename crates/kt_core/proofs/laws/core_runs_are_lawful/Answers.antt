@@ -1,5 +1,0 @@
-use Rattle.kt_core.proofs.Booked.{runs_lawful}
-use Rattle.kt_core.proofs.laws.core_runs_are_lawful.Goals as goal
-
-pub returns : goal.returns
-returns c = λ p input ok. runs_lawful p input (c.programs_meet_laws.ensures p ok) c.bodies_keep.ensures c.loops_are_direct.ensures ok

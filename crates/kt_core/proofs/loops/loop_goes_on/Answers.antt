@@ -1,7 +1,0 @@
-use Rattle.kt_order.proofs.LoopBooks.{loop_goes}
-use Rattle.kt_prog.specs.Reference.{machine_of}
-use Rattle.kt_core.specs.Rights.{rights_in}
-use Rattle.kt_core.proofs.loops.loop_goes_on.Goals as goal
-
-pub returns : goal.returns
-returns c = λ p x q b here. loop_goes (machine_of p) (rights_in p) x q b here

@@ -1,5 +1,0 @@
-use Rattle.kt_core.proofs.TableDone.{gives_reference}
-use Rattle.kt_core.proofs.tables.done_table_is_reference.Goals as goal
-
-pub returns : goal.returns
-returns c = λ p input ok x lawful main. gives_reference p input (c.programs_meet_laws.ensures p ok) x lawful main

@@ -1,5 +1,0 @@
-use Rattle.kt_core.proofs.TableKept.{table_kept}
-use Rattle.kt_core.proofs.tables.events_keep_tables_lawful.Goals as goal
-
-pub returns : goal.returns
-returns c = λ p input ok e x ask none lawful. table_kept p input (c.programs_meet_laws.ensures p ok) x lawful e ask none

@@ -1,0 +1,17 @@
+pub mod Places
+pub mod Bridge
+pub mod Zeroes
+pub mod Keeping
+pub mod Ends
+pub mod Obeying
+pub mod Runs
+pub mod Indexes
+pub mod Begins
+pub mod Counts
+pub mod Lines
+pub mod Clashes
+pub mod Next
+pub mod Numbers
+pub mod Elsewhere
+pub mod LoopForks
+pub mod Booked

@@ -1,0 +1,9 @@
+pub mod Clash
+pub mod Plans
+pub mod Rights
+pub mod Bodies
+pub mod States
+pub mod Numbers
+pub mod Loops
+pub mod CoreEvents
+pub mod Theorems

@@ -1,0 +1,17 @@
+pub mod TablePermutes
+pub mod TableListed
+pub mod TableEntries
+pub mod TableRuns
+pub mod TableFaults
+pub mod TableDone
+pub mod TableRows
+pub mod TablePaths
+pub mod TableClaims
+pub mod TableChanges
+pub mod TableForks
+pub mod TableSteps
+pub mod TableTests
+pub mod TableNext
+pub mod TableGoes
+pub mod TableAdds
+pub mod TableKept

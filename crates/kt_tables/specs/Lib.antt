@@ -1,0 +1,4 @@
+pub mod Tables
+pub mod TableEvents
+pub mod TableLaws
+pub mod TableEnabled
