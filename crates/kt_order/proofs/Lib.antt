@@ -30,6 +30,7 @@ pub mod ByPaths
 pub mod PathGoes
 pub mod PathThere
 pub mod PathDone
-pub mod PathEntries
+pub mod Weights
+pub mod PathWeights
 pub mod PathBegins
 pub mod LoopStays

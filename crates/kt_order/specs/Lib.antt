@@ -10,6 +10,7 @@ pub mod Rest
 pub mod Events
 pub mod Lawful
 pub mod Shown
+pub mod Weights
 pub mod Places
 pub mod Books
 pub mod Loops

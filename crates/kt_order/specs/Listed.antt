@@ -1,7 +1,5 @@
 -- The paths that are there, in the order of the sequential run.
 use Rattle.std.specs.Prelude.{ℕ, zero, suc, ◌+◌, List, [], ◌∷◌, ◌++◌, map}
-use Rattle.kt_order.specs.Body.{Stop, Do, Fork}
-use Rattle.kt_order.specs.Machine.{Machine, Code}
 use Rattle.kt_order.specs.Paths.{shift}
 
 abbrev pub each_from : ((List ℕ → ℕ) → List (List ℕ)) → (List ℕ → ℕ) → ℕ → ℕ → List (List ℕ)
@@ -19,10 +17,3 @@ all_paths depth count = [] ∷ listed depth count
 abbrev pub sum_over : (List ℕ → ℕ) → List (List ℕ) → ℕ
 sum_over f [] = 0
 sum_over f (p ∷ ps) = f p + sum_over f ps
-
-module _ (m : Machine) where
-  -- 1 where the next operation is a fork
-  abbrev pub forks_next : Code m → ℕ
-  forks_next (Stop f) = 0
-  forks_next (Do p k) = 0
-  forks_next (Fork c w) = 1

@@ -1,5 +1,5 @@
 -- The statements of the theory for tasks that are named by path.
-use Rattle.std.specs.Prelude.{◌≡◌, ℕ, suc, ◌≤◌, List, [], ◌∷◌, ◌++◌, length, map, Option, ◌⊎◌}
+use Rattle.std.specs.Prelude.{◌≡◌, ℕ, ◌≤◌, List, [], ◌∷◌, ◌++◌, map, Option, ◌⊎◌}
 use Rattle.kt_order.specs.Lists.{SomeOf}
 use Rattle.kt_order.specs.Body.{Stop, Do, Fork}
 use Rattle.kt_order.specs.Machine.{Machine, Code}
@@ -12,7 +12,8 @@ use Rattle.kt_order.specs.Lawful.{Lawful}
 use Rattle.kt_order.specs.Shown.{entry_of, Begins}
 use Rattle.kt_order.specs.Paths.{HasRoom, IsThere, children_at, Earlier}
 use Rattle.kt_order.specs.Named.{forks_in, count_of, Named, named, enter_at, operate_at}
-use Rattle.kt_order.specs.Listed.{all_paths, forks_next, sum_over}
+use Rattle.kt_order.specs.Weights.{task_weighs, entries_weigh}
+use Rattle.kt_order.specs.Listed.{all_paths, sum_over}
 
 module _ (m : Machine) (r : Rights m) where
   -- of a depth, a root and a store
@@ -74,7 +75,8 @@ module _ (m : Machine) (r : Rights m) where
   PathBeginsEntry = (depth : ℕ) (root : m.Call) (s : m.Store) (x : Named m) → IsLawfulAt depth root s x → (p : List ℕ)
       → IsTask depth x p → SomeOf (Begins m (x.get p)) (whole m root s).entries
 
-  -- the sequential run has an entry for each task, and one more for each whose next operation is a fork
-  abbrev pub ForksHaveEntries : Type 0
-  ForksHaveEntries = (depth : ℕ) (root : m.Call) (s : m.Store) (x : Named m) → IsLawfulAt depth root s x
-      → sum_over (λ p. suc (forks_next m (left m (x.get p)))) (all_paths depth (count_of m x.get)) ≤ length (whole m root s).entries
+  -- what the tasks weigh, each with what it has at hand, is no more than what the sequential run weighs
+  abbrev pub PathsWeighNoMore : Type 0
+  PathsWeighNoMore = Laws m r → (of_call : m.Call → ℕ) (of_act : m.Act → ℕ) (depth : ℕ) (root : m.Call) (s : m.Store) (x : Named m)
+      → IsLawfulAt depth root s x → sum_over (λ p. task_weighs m of_call of_act (x.get p)) (all_paths depth (count_of m x.get))
+      ≤ entries_weigh m of_call of_act (whole m root s).entries

@@ -11,6 +11,7 @@ use Rattle.kt_order.specs.Rest.{left}
 use Rattle.kt_order.specs.Events.{State, Event, opening, step, run, AllFinished, Enabled, Follows}
 use Rattle.kt_order.specs.Lawful.{Lawful}
 use Rattle.kt_order.specs.Shown.{settled, tasks, Embeds, moves_left}
+use Rattle.kt_order.specs.Weights.{tasks_weigh, entries_weigh}
 use Rattle.kt_order.specs.Places.{Separate, IsAbove, Stands, IsUnderWay, HandedDown}
 
 module _ (m : Machine) where
@@ -57,6 +58,11 @@ module _ (m : Machine) where
     abbrev pub NoMoreTasks : Type 0
     NoMoreTasks = (root : m.Call) (s : m.Store) (x : State m) → Lawful m r root s x
         → length (tasks m x.forest) ≤ length (whole m root s).entries
+
+    -- what the tasks weigh, each with what it has at hand, is no more than what the sequential run weighs
+    abbrev pub TasksWeighNoMore : Type 0
+    TasksWeighNoMore = Laws m r → (of_call : m.Call → ℕ) (of_act : m.Act → ℕ) (root : m.Call) (s : m.Store) (x : State m) → Lawful m r root s x
+        → tasks_weigh m of_call of_act x.forest ≤ entries_weigh m of_call of_act (whole m root s).entries
 
     abbrev pub MovesLeftFall : Type 0
     MovesLeftFall = Laws m r → (root : m.Call) (s : m.Store) (e : Event) (x : State m) → Enabled m r e x → Lawful m r root s x

@@ -1,5 +1,5 @@
 //! The laws of the theory. The functions do nothing; their contracts are the laws.
-ghost use Rattle.kt_order.specs.Theorems.{DoneStays, EventKeepsLawful, EveryOrderIsSequential, FinishedIsSequential, MovesLeftFall, NextIsFirst, NoMoreTasks, OpeningIsLawful, RunKeepsLawful, SideBySideAreApart, SomeEventIsEnabled, TasksBeginEntries, UpperGoesPast};
+ghost use Rattle.kt_order.specs.Theorems.{DoneStays, EventKeepsLawful, EveryOrderIsSequential, FinishedIsSequential, MovesLeftFall, NextIsFirst, NoMoreTasks, OpeningIsLawful, RunKeepsLawful, SideBySideAreApart, SomeEventIsEnabled, TasksBeginEntries, TasksWeighNoMore, UpperGoesPast};
 
 use crate::Program;
 
@@ -41,6 +41,11 @@ pub fn tasks_begin_entries<P: Program>()
 /// A lawful state has no more tasks than the sequential run.
 pub fn no_more_tasks<P: Program>()
     ensures { NoMoreTasks P.machine P.rights }
+{}
+
+/// So it is with any weights of calls and acts, and with what each task has at hand.
+pub fn tasks_weigh_no_more<P: Program>()
+    ensures { TasksWeighNoMore P.machine P.rights }
 {}
 
 /// Each event lowers the number of events that are left, so every list of events ends.

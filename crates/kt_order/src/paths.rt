@@ -1,5 +1,5 @@
 //! The laws of the theory for tasks that are named by path. The functions do nothing; their contracts are the laws.
-ghost use Rattle.kt_order.specs.PathTheorems.{ActAtPath, ClaimAtPath, EndAtPath, FinishAtPath, FinishedByPaths, ForkAtPath, ForksHaveEntries, PathBeginsEntry, SomePathGoes};
+ghost use Rattle.kt_order.specs.PathTheorems.{ActAtPath, ClaimAtPath, EndAtPath, FinishAtPath, FinishedByPaths, ForkAtPath, PathBeginsEntry, PathsWeighNoMore, SomePathGoes};
 
 use crate::Program;
 
@@ -43,7 +43,7 @@ pub fn path_begins_entry<P: Program>()
     ensures { PathBeginsEntry P.machine P.rights }
 {}
 
-/// The sequential run has an entry for each task, and one more for each whose next operation is a fork.
-pub fn forks_have_entries<P: Program>()
-    ensures { ForksHaveEntries P.machine P.rights }
+/// With any weights of calls and acts, the tasks with what each has at hand weigh no more than the sequential run.
+pub fn paths_weigh_no_more<P: Program>()
+    ensures { PathsWeighNoMore P.machine P.rights }
 {}

@@ -22,6 +22,7 @@ fn laws_hold_of_a_program() {
     laws::every_order_is_sequential::<Idle>();
     laws::tasks_begin_entries::<Idle>();
     laws::no_more_tasks::<Idle>();
+    laws::tasks_weigh_no_more::<Idle>();
     laws::moves_left_fall::<Idle>();
     laws::side_by_side_are_apart::<Idle>();
     laws::upper_goes_past::<Idle>();
@@ -51,5 +52,5 @@ fn laws_by_paths_hold_of_a_program() {
     paths::some_path_goes::<Idle>();
     paths::finished_by_paths::<Idle>();
     paths::path_begins_entry::<Idle>();
-    paths::forks_have_entries::<Idle>();
+    paths::paths_weigh_no_more::<Idle>();
 }
