@@ -1,5 +1,5 @@
 -- The events of the core keep it lawful, with the books of its loops.
-use Rattle.std.proofs.Common.{◌≡◌, ◌≢◌, ℕ, zero, suc, ◌-◌, true, false, cond, List, [], ◌∷◌, Some, None, inl, inr, refl, sym, ap, subst, ◌∙◌}
+use Rattle.std.proofs.Common.{◌≡◌, ◌≢◌, ℕ, ◌-◌, true, false, cond, List, [], ◌∷◌, Some, None, inl, inr, refl, sym, ap, subst, ◌∙◌}
 use Rattle.kt_order.specs.Lists.{nth, AllOf}
 use Rattle.kt_order.specs.Body.{Stop, Do, Fork}
 use Rattle.kt_order.specs.Machine.{Code}
@@ -11,30 +11,29 @@ use Rattle.kt_order.specs.Events.{put, in_phase, did, forked, ended, same_frame,
 use Rattle.kt_order.specs.Books.{Book, whole_book, cut, take}
 use Rattle.kt_order.specs.Loops.{child, event_place, begin_events, take_events, index_events, phases, HasBook}
 use Rattle.kt_order.proofs.Ats.{at_more, at_says}
-use Rattle.kt_order.proofs.Kept.{kept}
 use Rattle.kt_order.proofs.LoopBooks.{loop_splits, loop_retires}
 use Rattle.kt_order.proofs.LoopStays.{loop_stays}
-use Rattle.kt_prog.specs.Calls.{Job, Whole, Index}
 use Rattle.kt_prog.specs.Laws.{BodiesKeep, LoopsAreDirect}
 use Rattle.kt_prog.specs.Entries.{index_of}
 use Rattle.kt_prog.specs.Accepted.{IsAccepted}
-use Rattle.kt_prog.specs.Reference.{Placed, machine_of, main_placed, opened_with}
+use Rattle.kt_prog.specs.Reference.{Placed, machine_of}
 use Rattle.kt_prog.specs.declared.programs.Program.{Program}
 use Rattle.kt_runs.specs.Rights.{rights_in}
-use Rattle.kt_runs.specs.States.{Core, opening_core, IsRun, after_event, after_events, IsLawful, IsEnabled, IsDone, GivesReference}
+use Rattle.kt_runs.specs.States.{Core, IsRun, after_event, after_events, IsLawful}
 use Rattle.kt_runs.specs.Loops.{CanBegin, CanRetire, LoopAt}
-use Rattle.kt_runs.specs.CoreEvents.{CoreEvent, ClaimInOrder, ClaimReady, Body, Begin, Split, Take, IndexBody, Retire, Finish, same_place, with_book, Booked, is_loop_job, IsCall, IsLooping, IsAct, MayGoOn, TaskAt, CanDo, after_core, IsLawfulCore, opening_booked, IsCoreRun, after_core_events}
-use Rattle.kt_runs.proofs.Runs.{opening_lawful, done_gives}
+use Rattle.kt_runs.specs.CoreEvents.{CoreEvent, ClaimInOrder, ClaimReady, Body, Begin, Split, Take, IndexBody, Retire, Finish, same_place, with_book, Booked, is_loop_job, IsCall, IsLooping, IsAct, MayGoOn, TaskAt, CanDo, after_core}
+use Rattle.kt_runs.proofs.Runs.{event_keeps}
 use Rattle.kt_runs.proofs.Elsewhere.{place_or, child_of, same_at, left_says, both_at, calls_stay, calls_were, held_before}
 use Rattle.kt_runs.proofs.LoopForks.{no_call_there}
+use Rattle.kt_runs.proofs.LoopEvents.{begin_places, IsChild, take_places, index_places, loop_is_call, looping_there}
 use Rattle.kt_runs.proofs.Begins.{loop_begins, takes, index_goes}
 
-same_self : (q : Place) → same_place q q ≡ true
+pub same_self : (q : Place) → same_place q q ≡ true
 same_self Here = refl
 same_self (Down q) = same_self q
 same_self (Later q) = same_self q
 
-differ : (q r : Place) → q ≢ r → same_place q r ≡ false
+pub differ : (q r : Place) → q ≢ r → same_place q r ≡ false
 differ Here Here ne = absurd (ne refl)
 differ Here (Down r) ne = refl
 differ Here (Later r) ne = refl
@@ -45,23 +44,12 @@ differ (Later q) Here ne = refl
 differ (Later q) (Down r) ne = refl
 differ (Later q) (Later r) ne = differ q r (λ e. ne (ap Later e))
 
-begin_places : (q : Place) (n : ℕ) → AllOf (λ e. event_place e ≡ q) (begin_events q n)
-begin_places q zero = (refl, tt)
-begin_places q (suc n) = (refl, begin_places q n)
-
-abbrev IsChild : Place → order.Event → Type 0
-IsChild q e = (i : ℕ) × (event_place e ≡ child q i)
-
-take_places : (q : Place) (at n : ℕ) → AllOf (IsChild q) (take_events q at n)
-take_places q at zero = tt
-take_places q at (suc n) = ((at, refl), take_places q (suc at) n)
+-- a lawful core in which each looping loop has its book
+pub record IsBooked (p : Program) (input : List ℕ) (y : Booked p) : Type 0 where
+  pub lawful : IsLawful p input y.core
+  pub books : (q : Place) → TaskAt p (IsLooping p) q y.core → LoopAt p (y.books q) q y.core
 
 module _ (p : Program) (input : List ℕ) (l : Laws (machine_of p) (rights_in p)) where
-  index_places : (w : Code (machine_of p)) (q : Place) (i : ℕ) → AllOf (IsChild q) (index_events (machine_of p) w q i)
-  index_places (Stop f) q i = ((i, refl), ((i, refl), tt))
-  index_places (Do a k) q i = ((i, refl), tt)
-  index_places (Fork c w) q i = ((i, refl), tt)
-
   abbrev IsLoop : Placed → Type 0
   IsLoop c = is_loop_job p c.job ≡ true
 
@@ -71,40 +59,30 @@ module _ (p : Program) (input : List ℕ) (l : Laws (machine_of p) (rights_in p)
   never_fresh : (c : Placed) → IsLooping p (fresh (machine_of p) c) → ⊥
   never_fresh c h = absurd (cc (h.1))
 
-  loop_is_call : (job : Job) → is_loop_job p job ≡ true → index_of job ≡ None
-  loop_is_call (Whole call) h = refl
-  loop_is_call (Index call i) h = cc
-
-  loops : (q : Place) (x : Core p) → TaskAt p (IsLooping p) q x → TaskAt p (λ u. IsLoop u.call) q x
-  loops q x at = at_more (machine_of p) (λ u kids. IsLooping p u) (λ u kids. IsLoop u.call) (λ u kids h. h.0) q x.forest at
-
   -- an event at the place of a call leaves the books of the loops elsewhere
   at_call : (e : order.Event) (x : Core p) → IsLawful p input x → TaskAt p (IsCall p) (event_place e) x → (r : Place) → event_place e ≢ r
       → (b : Book) → Holds r b x → Holds r b (after_event p e x)
   at_call e x lawful call r ne b holds looping =
       let before = held_before (machine_of p) (IsLooping p) never_fresh e x r ne looping in
       loop_stays (machine_of p) (rights_in p) x r b e (holds before) ne
-      (λ i same. no_call_there p r i x.forest lawful.shape (loops r x before) (subst (λ q. TaskAt p (IsCall p) q x) same call))
+      (λ i same. no_call_there p r i x.forest lawful.shape (looping_there p r x before) (subst (λ q. TaskAt p (IsCall p) q x) same call))
 
   -- and so does one at an index of a loop
   at_child : (e : order.Event) (x : Core p) (home : Place) → IsLawful p input x → IsChild home e → TaskAt p (λ u. IsLoop u.call) home x
       → (r : Place) → home ≢ r → (b : Book) → Holds r b x → Holds r b (after_event p e x)
   at_child e x home lawful there loop r ne b holds looping =
       let other = λ (same : event_place e ≡ r).
-      let at = calls_were (machine_of p) IsLoop e x (subst (λ q. TaskAt p (λ u. IsLoop u.call) q (after_event p e x)) (sym same) (loops r (after_event p e x) looping)) in
-      let call = at_more (machine_of p) (λ u kids. IsLoop u.call) (λ u kids. IsCall p u) (λ u kids h. loop_is_call u.call.job h) (event_place e) x.forest at in
+      let at = calls_were (machine_of p) IsLoop e x (subst (λ q. TaskAt p (λ u. IsLoop u.call) q (after_event p e x)) (sym same) (looping_there p r (after_event p e x) looping)) in
+      let call = at_more (machine_of p) (λ u kids. IsLoop u.call) (λ u kids. IsCall p u) (λ u kids h. loop_is_call p u.call.job h) (event_place e) x.forest at in
       no_call_there p home there.0 x.forest lawful.shape loop (subst (λ q. TaskAt p (IsCall p) q x) there.1 call) in
       let before = held_before (machine_of p) (IsLooping p) never_fresh e x r other looping in
       loop_stays (machine_of p) (rights_in p) x r b e (holds before) other (λ j same. ne (child_of home r there.0 j (sym there.1 ∙ same)))
-
-  keeps_one : (e : order.Event) (x : Core p) → IsEnabled p e x → IsLawful p input x → IsLawful p input (after_event p e x)
-  keeps_one e x can lawful = kept (machine_of p) (rights_in p) l main_placed (opened_with p.families input) e x can lawful
 
   run_calls : (es : List order.Event) (x : Core p) (home : Place) → AllOf (λ e. event_place e ≡ home) es → IsLawful p input x → IsRun p es x
       → TaskAt p (IsCall p) home x → (r : Place) → home ≢ r → (b : Book) → Holds r b x → Holds r b (after_events p es x)
   run_calls [] x home all lawful follows call r ne b holds = holds
   run_calls (e ∷ es) x home all lawful follows call r ne b holds =
-      run_calls es (after_event p e x) home all.1 (keeps_one e x follows.0 lawful) follows.1
+      run_calls es (after_event p e x) home all.1 (event_keeps p input l e x follows.0 lawful) follows.1
       (calls_stay (machine_of p) (λ c. index_of c.job ≡ None) e x home call) r ne b
       (at_call e x lawful (subst (λ q. TaskAt p (IsCall p) q x) (sym all.0) call) r (λ same. ne (sym all.0 ∙ same)) b holds)
 
@@ -112,7 +90,7 @@ module _ (p : Program) (input : List ℕ) (l : Laws (machine_of p) (rights_in p)
       → TaskAt p (λ u. IsLoop u.call) home x → (r : Place) → home ≢ r → (b : Book) → Holds r b x → Holds r b (after_events p es x)
   run_children [] x home all lawful follows loop r ne b holds = holds
   run_children (e ∷ es) x home all lawful follows loop r ne b holds =
-      run_children es (after_event p e x) home all.1 (keeps_one e x follows.0 lawful) follows.1
+      run_children es (after_event p e x) home all.1 (event_keeps p input l e x follows.0 lawful) follows.1
       (calls_stay (machine_of p) IsLoop e x home loop) r ne b (at_child e x home lawful all.0 loop r ne b holds)
 
   -- the book of one place is new
@@ -161,19 +139,19 @@ module _ (p : Program) (input : List ℕ) (l : Laws (machine_of p) (rights_in p)
       two_phases ph e f = cc
 
   module _ (bodies : BodiesKeep) (direct : LoopsAreDirect) (ok : IsAccepted p) where
-    pub keeps : (e : CoreEvent) (y : Booked p) → CanDo p e y → IsLawfulCore p input y → IsLawfulCore p input (after_core p e y)
+    pub keeps : (e : CoreEvent) (y : Booked p) → CanDo p e y → IsBooked p input y → IsBooked p input (after_core p e y)
     keeps (ClaimInOrder q) y can h = record {
-      lawful = keeps_one (order.ClaimInOrder q) y.core can.1 h.lawful;
+      lawful = event_keeps p input l (order.ClaimInOrder q) y.core can.1 h.lawful;
       books = unchanged (order.enter (machine_of p) Running q y.core) q y.books (never_in Running (λ e. cc) q y.core (y.books q))
           (λ r ne. at_call (order.ClaimInOrder q) y.core h.lawful can.0 r ne (y.books r) (h.books r));
     }
     keeps (ClaimReady q) y can h = record {
-      lawful = keeps_one (order.ClaimReady q) y.core can.1 h.lawful;
+      lawful = event_keeps p input l (order.ClaimReady q) y.core can.1 h.lawful;
       books = unchanged (order.enter (machine_of p) Running q y.core) q y.books (never_in Running (λ e. cc) q y.core (y.books q))
           (λ r ne. at_call (order.ClaimReady q) y.core h.lawful can.0 r ne (y.books r) (h.books r));
     }
     keeps (Finish q) y can h = record {
-      lawful = keeps_one (order.Finish q) y.core can.1 h.lawful;
+      lawful = event_keeps p input l (order.Finish q) y.core can.1 h.lawful;
       books = unchanged (order.enter (machine_of p) Finished q y.core) q y.books (never_in Finished (λ e. cc) q y.core (y.books q))
           (λ r ne. at_call (order.Finish q) y.core h.lawful can.0 r ne (y.books r) (h.books r));
     }
@@ -181,7 +159,7 @@ module _ (p : Program) (input : List ℕ) (l : Laws (machine_of p) (rights_in p)
         let running = at_more (machine_of p) (λ u kids. MayGoOn p u) (λ u kids. u.phase ≡ Running) (λ u kids may. may.running) q y.core.forest can in
         let call = at_more (machine_of p) (λ u kids. MayGoOn p u) (λ u kids. IsCall p u) (λ u kids may. may.call) q y.core.forest can in
         record {
-          lawful = keeps_one (order.Step q) y.core running h.lawful;
+          lawful = event_keeps p input l (order.Step q) y.core running h.lawful;
           books = unchanged (after_event p (order.Step q) y.core) q y.books
               (λ looping. absurd (never_ended q y.core can (left_at (machine_of p) q y.core.forest) refl looping))
               (λ r ne. at_call (order.Step q) y.core h.lawful call r ne (y.books r) (h.books r));
@@ -204,7 +182,7 @@ module _ (p : Program) (input : List ℕ) (l : Laws (machine_of p) (rights_in p)
         record {
           lawful = goes.1;
           books = changed (after_events p (take_events q at n) y.core) q (record { pieces = take at n (y.books q).pieces; unretired = (y.books q).unretired }) y.books (λ looping. goes.2)
-              (λ r ne. run_children (take_events q at n) y.core q (take_places q at n) h.lawful goes.0 (loops q y.core can.0) r ne (y.books r) (h.books r));
+              (λ r ne. run_children (take_events q at n) y.core q (take_places q at n) h.lawful goes.0 (looping_there p q y.core can.0) r ne (y.books r) (h.books r));
         }
     keeps (IndexBody q i) y can h =
         let es = index_events (machine_of p) (left_at (machine_of p) (child q i) y.core.forest) q i in
@@ -213,7 +191,7 @@ module _ (p : Program) (input : List ℕ) (l : Laws (machine_of p) (rights_in p)
         record {
           lawful = goes.1;
           books = unchanged (after_events p es y.core) q y.books (λ looping. goes.2)
-              (λ r ne. run_children es y.core q (index_places (left_at (machine_of p) (child q i) y.core.forest) q i) h.lawful goes.0 (loops q y.core can.0) r ne (y.books r) (h.books r));
+              (λ r ne. run_children es y.core q (index_places (machine_of p) (left_at (machine_of p) (child q i) y.core.forest) q i) h.lawful goes.0 (looping_there p q y.core can.0) r ne (y.books r) (h.books r));
         }
     keeps (Retire q n) y can h =
         let there = both_at (machine_of p) (λ u kids. HasBook (machine_of p) (rights_in p) (y.books q) u kids) (λ u kids. CanRetire p n (y.books q) kids) q y.core.forest (h.books q can.0) can.2 in
@@ -222,19 +200,3 @@ module _ (p : Program) (input : List ℕ) (l : Laws (machine_of p) (rights_in p)
           books = changed y.core q (record { pieces = (y.books q).pieces; unretired = (y.books q).unretired - n }) y.books
               (λ looping. loop_retires (machine_of p) (rights_in p) y.core q (y.books q) n there) (λ r ne. h.books r);
         }
-
-    opening_books : (q : Place) → TaskAt p (IsLooping p) q (opening_core p input) → LoopAt p (whole_book 0) q (opening_core p input)
-    opening_books Here looping = absurd (never_fresh main_placed looping)
-    opening_books (Down q) looping = looping
-    opening_books (Later q) looping = looping
-
-    run_from : (es : List CoreEvent) (y : Booked p) → IsCoreRun p es y → IsLawfulCore p input y → IsLawfulCore p input (after_core_events p es y)
-    run_from [] y can h = h
-    run_from (e ∷ es) y can h = run_from es (after_core p e y) can.1 (keeps e y can.0 h)
-
-    pub runs_lawful : (es : List CoreEvent) → IsCoreRun p es (opening_booked p input) → IsLawfulCore p input (after_core_events p es (opening_booked p input))
-    runs_lawful es can = run_from es (opening_booked p input) can (record { lawful = opening_lawful p input l; books = opening_books })
-
-    pub runs_give : (es : List CoreEvent) → IsCoreRun p es (opening_booked p input) → IsDone p (after_core_events p es (opening_booked p input)).core
-        → GivesReference p input (after_core_events p es (opening_booked p input)).core
-    runs_give es can done = done_gives p input l (after_core_events p es (opening_booked p input)).core (runs_lawful es can).lawful done

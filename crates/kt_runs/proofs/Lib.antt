@@ -13,5 +13,11 @@ pub mod Clashes
 pub mod Next
 pub mod Numbers
 pub mod Elsewhere
+pub mod Forked
 pub mod LoopForks
+pub mod LoopEvents
 pub mod Booked
+pub mod Bare
+pub mod Emptied
+pub mod CoreRuns
+pub mod Going

@@ -3,7 +3,7 @@ use Rattle.std.specs.Prelude.{◌≡◌, ℕ, ◌-◌, ◌≤◌, Bool, true, fa
 use Rattle.kt_order.specs.Lists.{nth}
 use Rattle.kt_order.specs.Body.{Stop, Do, Fork}
 use Rattle.kt_order.specs.Machine.{Code}
-use Rattle.kt_order.specs.Forest.{Running, Ended, Place, Here, Down, Later, Task, At}
+use Rattle.kt_order.specs.Forest.{Running, Ended, Place, Here, Down, Later, Task, Nil, At}
 use Rattle.kt_order.specs.Rest.{left}
 use Rattle.kt_order.specs.Events as order
 use Rattle.kt_order.specs.Events.{left_at}
@@ -38,6 +38,10 @@ same_place Here Here = true
 same_place (Down q) (Down r) = same_place q r
 same_place (Later q) (Later r) = same_place q r
 same_place _ _ = false
+
+-- no pieces, and no index unretired
+abbrev pub empty_book : Book
+empty_book = whole_book 0
 
 -- the books with this one at a place
 abbrev pub with_book : Place → Book → (Place → Book) → Place → Book
@@ -115,14 +119,27 @@ module _ (p : Program) where
   abbrev pub after_core : CoreEvent → Booked → Booked
   after_core e y = record { core = after_events p (events_of e y.core) y.core; books = books_of e y.books }
 
-  -- a lawful core in which each looping loop has its book
+  -- a loop that is claimed and has not begun
+  abbrev pub IsRunningLoop : Task (machine_of p) → Type 0
+  IsRunningLoop u = (is_loop_job u.call.job ≡ true) × (u.phase ≡ Running)
+
+  -- the task at the place has no children
+  abbrev pub BareAt : Place → Core p → Type 0
+  BareAt q x = At (machine_of p) (λ u kids. kids ≡ Nil) q x.forest
+
+  -- a lawful core with the books of its loops
   pub record IsLawfulCore (input : List ℕ) (y : Booked) : Type 0 where
     pub lawful : IsLawful p input y.core
+    -- each looping loop has its book
     pub books : (q : Place) → TaskAt IsLooping q y.core → LoopAt p (y.books q) q y.core
+    -- a loop that has not begun has no index; of an unclaimed one the lawful core says it
+    pub bare : (q : Place) → TaskAt IsRunningLoop q y.core → BareAt q y.core
+    -- where no loop is looping the book is empty: so it is of a loop that has not begun, and of one that is finished
+    pub empty : (q : Place) → (TaskAt IsLooping q y.core → ⊥) → y.books q ≡ empty_book
 
   -- main unclaimed, the input in the store, and no loop that has begun
   abbrev pub opening_booked : List ℕ → Booked
-  opening_booked input = record { core = opening_core p input; books = λ q. whole_book 0 }
+  opening_booked input = record { core = opening_core p input; books = λ q. empty_book }
 
   -- each event can be done in the core that the earlier ones leave
   abbrev pub IsCoreRun : List CoreEvent → Booked → Type 0
@@ -147,3 +164,8 @@ CoreRunsAreLawful = (p : Program) (input : List ℕ) → IsAccepted p → (es : 
 abbrev pub CoreRunsGiveReference : Type 0
 CoreRunsGiveReference = (p : Program) (input : List ℕ) → IsAccepted p → (es : List CoreEvent) → IsCoreRun p es (opening_booked p input)
     → let y = after_core_events p es (opening_booked p input) in IsDone p y.core → GivesReference p input y.core
+
+-- while main is not finished some event can be done
+abbrev pub SomeCoreEventGoes : Type 0
+SomeCoreEventGoes = (p : Program) (input : List ℕ) → IsAccepted p → (y : Booked p) → IsLawfulCore p input y
+    → IsDone p y.core ⊎ (e : CoreEvent) × CanDo p e y
