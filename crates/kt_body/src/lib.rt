@@ -12,8 +12,6 @@ mod passed;
 mod scene;
 mod start;
 mod targets;
-#[cfg(test)]
-mod tests;
 mod walk;
 mod writes;
 mod zero;

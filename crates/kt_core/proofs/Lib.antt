@@ -5,4 +5,3 @@ pub mod Frames
 pub mod Rephasing
 pub mod Changes
 pub mod Opening
-pub mod Driven

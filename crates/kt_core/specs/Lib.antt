@@ -1,4 +1,3 @@
 pub mod Links
 pub mod Steps
 pub mod Sound
-pub mod Driven

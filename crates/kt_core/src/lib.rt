@@ -5,8 +5,6 @@ mod claims;
 mod links;
 mod rows;
 mod running;
-#[cfg(test)]
-mod tests;
 
 pub use kt_tables::{BodyFault, Event, Phase, Why};
 pub use running::Core;

@@ -6,8 +6,6 @@ mod choices;
 mod faults;
 mod operations;
 mod run;
-#[cfg(test)]
-mod tests;
 mod turns;
 
 pub use run::simulate;

@@ -3,7 +3,5 @@
 
 mod opening;
 mod plain;
-#[cfg(test)]
-mod tests;
 
 pub use plain::PlainStore;

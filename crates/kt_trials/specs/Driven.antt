@@ -1,4 +1,4 @@
--- A body that runs on a core, as the tests let one run.
+-- A body that runs on a core.
 use Rattle.std.specs.Prelude.{◌≡◌, ℕ, List, Some, slice_get}
 use Rattle.kt_prog.specs.Calls.{Job, Whole}
 use Rattle.kt_prog.specs.declared.programs.Program.{Program}

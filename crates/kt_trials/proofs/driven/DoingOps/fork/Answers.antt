@@ -2,10 +2,10 @@
 use Rattle.std.proofs.Common.{◌<◌, length, sym, subst, arith}
 use Rattle.kt_prog.specs.Calls.{CallTree}
 use Rattle.kt_prog.specs.declared.runs.Operation.TheVariants as O
-use Rattle.kt_core.specs.Driven.{CanGo}
+use Rattle.kt_trials.specs.Driven.{CanGo}
 use Rattle.kt_runs.specs.States.{most_tasks}
-use Rattle.kt_core.proofs.Driven.{can_go}
-use Rattle.kt_core.proofs.tests.DoingOps.fork.Goals as goal
+use Rattle.kt_trials.proofs.Driven.{can_go}
+use Rattle.kt_trials.proofs.driven.DoingOps.fork.Goals as goal
 
 pub go-requires-clause-can : goal.go-requires-clause-can
 go-requires-clause-can c =

@@ -1,7 +1,7 @@
 -- The operation is due.
 use Rattle.kt_prog.specs.declared.runs.Operation.TheVariants as O
-use Rattle.kt_core.proofs.Driven.{can_go}
-use Rattle.kt_core.proofs.tests.DoingOps.fold.Goals as goal
+use Rattle.kt_trials.proofs.Driven.{can_go}
+use Rattle.kt_trials.proofs.driven.DoingOps.fold.Goals as goal
 
 pub go-requires-clause-can : goal.go-requires-clause-can
 go-requires-clause-can c =

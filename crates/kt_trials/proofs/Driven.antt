@@ -9,7 +9,7 @@ use Rattle.kt_prog.specs.declared.programs.Program.{Program}
 use Rattle.kt_prog.specs.declared.runs.Operation.{Operation}
 use Rattle.kt_prog.specs.declared.runs.Operation.TheVariants as O
 use Rattle.kt_body.specs.Endings.{IsCalled, answers_of}
-use Rattle.kt_core.specs.Driven.{CanGo, IsPlain, StandsAt}
+use Rattle.kt_trials.specs.Driven.{CanGo, IsPlain, StandsAt}
 use Rattle.kt_tables.specs.Tables.{TaskRow, CoreState, fresh_row, opening_state}
 use Rattle.kt_tables.specs.TableEvents.{CanAsk, Finds, FindsRoom, IsDue, added_by, in_phase, row_after, state_after, task_of, went_on}
 use Rattle.kt_tables.specs.declared.events.Event.{Event}

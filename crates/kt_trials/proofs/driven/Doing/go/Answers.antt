@@ -1,10 +1,10 @@
 -- The row goes on.
 use Rattle.std.proofs.Common.{◌≡◌, ◌+◌, ◌++◌, sym, subst}
 use Rattle.kt_prog.specs.Operations.{heard}
-use Rattle.kt_core.specs.Driven.{StandsAt}
+use Rattle.kt_trials.specs.Driven.{StandsAt}
 use Rattle.kt_tables.specs.Tables.{CoreState}
-use Rattle.kt_core.proofs.Driven.{stands_after}
-use Rattle.kt_core.proofs.tests.Doing.go.Goals as goal
+use Rattle.kt_trials.proofs.Driven.{stands_after}
+use Rattle.kt_trials.proofs.driven.Doing.go.Goals as goal
 
 pub returns-in-Ok : goal.returns-in-Ok
 returns-in-Ok c =
