@@ -21,3 +21,4 @@ pub mod Bare
 pub mod Emptied
 pub mod CoreRuns
 pub mod Going
+pub mod ForkedCalls

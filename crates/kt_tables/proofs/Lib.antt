@@ -8,7 +8,6 @@ pub mod TableRows
 pub mod TablePaths
 pub mod TableClaims
 pub mod TableChanges
-pub mod TableForks
 pub mod TableSteps
 pub mod TableTests
 pub mod TableNext

@@ -27,7 +27,7 @@ use Rattle.kt_tables.specs.TableLaws.{row_at, phase_of, as_task, task_or_fresh, 
 use Rattle.kt_tables.specs.declared.events.Phase.TheVariants as P
 use Rattle.kt_tables.proofs.TableRows.{by_bool, got_set, got_app, get_front, get_last, row_where, mapped_is, map_snoc, snoc_view, snoc_same, same_self, length_snoc, length_mapped, child_snoc, child_is, count_app, count_more, count_none}
 use Rattle.kt_tables.proofs.TablePaths.{get_row, row_ok, set_is, add_is}
-use Rattle.kt_tables.proofs.TableForks.{room_in, fork_path, fork_deep}
+use Rattle.kt_runs.proofs.ForkedCalls.{room_in, fork_path, fork_deep}
 use Rattle.kt_tables.proofs.TableChanges.{old_row, new_row, once_set, main_set, order_set, deep_set, count_children, faults_set, no_loops_set}
 use Rattle.kt_tables.proofs.TableSteps.{phase_there, no_fault, left_there}
 
