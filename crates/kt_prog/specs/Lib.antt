@@ -12,6 +12,7 @@ pub mod Zeroing
 pub mod Kernels
 pub mod Bodies
 pub mod Operations
+pub mod Forms
 pub mod Scope
 pub mod Rules
 pub mod ForkRules

@@ -5,6 +5,8 @@ use Rattle.kt_law.specs.declared.limits.TheConstants.{DEFINITIONS}
 use Rattle.kt_law.specs.declared.operators.Op.TheVariants.{Add, Min}
 use Rattle.kt_law.specs.declared.modes.Mode.TheVariants.{R, W, X, Cw}
 use Rattle.kt_prog.specs.Locals.{or_else}
+use Rattle.kt_prog.specs.declared.kernel.Kernel.{Kernel}
+use Rattle.kt_prog.specs.declared.kernel.Kernel.TheVariants as K
 use Rattle.kt_prog.specs.declared.programs.Task.{Task}
 use Rattle.kt_prog.specs.declared.programs.Index.{Index}
 use Rattle.kt_prog.specs.declared.programs.Param.{Param}
@@ -43,6 +45,12 @@ stencil = kernel 3 (Int ∷ One R ∷ One R ∷ One R ∷ One W ∷ [])
 -- k_scan(int n, int t, r S, x A)
 abbrev pub scan : Target
 scan = kernel 4 (Int ∷ Int ∷ One R ∷ One X ∷ [])
+
+abbrev pub kernel_target : Kernel → Target
+kernel_target K.Mul = mul
+kernel_target K.Minplus = minplus
+kernel_target K.Stencil = stencil
+kernel_target K.Scan = scan
 
 abbrev pub kernel_named : List ℕ → Option Target
 kernel_named name =

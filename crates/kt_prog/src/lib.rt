@@ -4,6 +4,8 @@
 mod calls;
 mod counts;
 mod faults;
+mod form;
+mod kernel;
 pub mod laws;
 mod names;
 mod programs;
@@ -15,6 +17,8 @@ mod tests;
 
 pub use calls::Call;
 pub use counts::{elements, first_element, inputs, objects, width};
+pub use form::Form;
+pub use kernel::Kernel;
 pub use names::Name;
 pub use programs::{
     Arg, ArgWhat, Expr, Family, Index, Main, Param, Program, Sort, Stmt, Task, What,
