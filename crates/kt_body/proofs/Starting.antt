@@ -8,7 +8,8 @@ use Rattle.kt_order.specs.Body.{Stop}
 use Rattle.kt_prog.specs.Accepted.{IsAccepted}
 use Rattle.kt_prog.specs.Bodies.{call_body, index_in, job_body, main_body, script_of, script_with, task_at, task_body, task_or_loop}
 use Rattle.kt_prog.specs.Calls.{CallTree, Job, Whole}
-use Rattle.kt_prog.specs.Fits.{AreGiven, EachOf, Fits, GivenOne, Inside, is_call, is_main}
+use Rattle.kt_rights.specs.Rights.{EachOf}
+use Rattle.kt_prog.specs.Fits.{AreGiven, Fits, GivenOne, Inside, is_call, is_main}
 use Rattle.kt_prog.specs.Objects.{objects_of}
 use Rattle.kt_prog.specs.Operations.{end_of, is_loop_at}
 use Rattle.kt_prog.specs.Script.{Step, ◌>>=◌, give}

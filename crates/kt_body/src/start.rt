@@ -1,7 +1,7 @@
 // What the names of a task stand for where its body starts.
 ghost use Rattle.std.specs.Prelude.{◌≡◌, ◌≤◌, ◌<◌, ◌+◌, List, [], ◌∷◌, ◌++◌, length};
 ghost use Rattle.kt_law.specs.declared.limits.TheConstants.{ACCESSES, INTS};
-ghost use Rattle.kt_prog.specs.Fits.{EachOf};
+ghost use Rattle.kt_rights.specs.Rights.{EachOf};
 ghost use Rattle.kt_prog.specs.Locals.{given};
 ghost use Rattle.kt_prog.specs.declared.programs.Param.{Param};
 ghost use Rattle.kt_prog.specs.declared.scope.TheConstants.{NAMES};

@@ -8,7 +8,7 @@ use Rattle.std.proofs.lemmas.Option.{slice_get_within}
 use Rattle.kt_law.specs.declared.limits.TheConstants.{DEPTH}
 use Rattle.kt_prog.specs.Calls.{CallTree, Whole}
 use Rattle.kt_prog.specs.Fits.{Fits, is_main, is_call}
-use Rattle.kt_prog.specs.Rights.{HandsOn, rights_of}
+use Rattle.kt_prog.specs.Rights.{MayFork, rights_of}
 use Rattle.kt_prog.specs.declared.programs.Program.{Program}
 use Rattle.kt_prog.specs.declared.runs.Operation.{Operation}
 use Rattle.kt_prog.specs.declared.runs.Operation.TheVariants as O
@@ -131,7 +131,7 @@ depth_fits p call n (is_main e) d = let zero_depth : call.depth ≡ 0 = ap (λ (
 depth_fits p call n (is_call t e fits) d = omega (arith, fits.deep, d)
 
 pub handed : NextIsRightful → (c : CoreState) (links : List LinkState) (t : ℕ) (call : CallTree) (r : TaskRow) → IsSound c links → Goes (E.Body t (O.Fork call)) c
-    → slice_get c.table.tasks t ≡ Some r → HandsOn c.program (rights_of c.program r.call) r.call.depth call
+    → slice_get c.table.tasks t ≡ Some r → MayFork c.program (rights_of c.program r.call) r.call.depth call
 handed law c links t call r sound goes at =
     law c.program sound.lawful.accepted (Whole r.call) (sound.fit t r.call (mapped_at (λ (u : TaskRow). u.call) c.table.tasks t r at)) r.answers r.done (O.Fork call)
     (due c t (O.Fork call) r goes at).next

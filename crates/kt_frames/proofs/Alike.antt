@@ -5,7 +5,7 @@ use Rattle.kt_law.specs.Acts.{Act, Deed, Load, Store, Fold}
 use Rattle.kt_order.specs.Body.{Stop, Do, Fork, Keeps}
 use Rattle.kt_order.specs.Machine.{Machine}
 use Rattle.kt_order.specs.Sequential.{Alone, alone}
-use Rattle.kt_prog.specs.Calls.{CallTree, Job, Whole, Index}
+use Rattle.kt_prog.specs.Calls.{CallTree, Job, Whole, Index, call_of}
 use Rattle.kt_prog.specs.Script.{Fault, Script}
 use Rattle.kt_prog.specs.Operations.{trace}
 use Rattle.kt_prog.specs.Reference.{Placed, placed, machine_of}
@@ -28,12 +28,8 @@ abbrev pub OfCall : (CallTree → Type 0) → Job → Type 0
 OfCall G (Whole call) = G call
 OfCall G (Index call i) = ⊥
 
-abbrev pub call_in : Job → CallTree
-call_in (Whole call) = call
-call_in (Index call i) = call
-
 abbrev pub calls_of : List Placed → List CallTree
-calls_of = map (λ c. call_in c.job)
+calls_of = map (λ c. call_of c.job)
 
 abbrev pub all_pushed : Stack → List CallTree → Stack
 all_pushed f [] = f

@@ -21,8 +21,9 @@ use Rattle.kt_prog.specs.declared.sight.Kind.TheVariants.{Number, Variable, Inde
 use Rattle.kt_prog.specs.declared.sight.Kind.{Kind}
 use Rattle.kt_prog.specs.Rules.{breaches_in, Breaches, denied}
 use Rattle.kt_prog.specs.ForkRules.{wants_other, wants_one, wants_many, one_rule, many_rule, argument_rule, argument_rules, length_rule, is_formed, fork_rule, unknown_in_all}
-use Rattle.kt_prog.specs.Rights.{SomeOf, Covers}
-use Rattle.kt_prog.specs.Fits.{EachOf, AreGiven, Inside, FitsTarget}
+use Rattle.kt_rights.specs.Rights.{SomeOf, EachOf, Covers}
+use Rattle.kt_rights.proofs.Lists.{some_more, pick}
+use Rattle.kt_prog.specs.Fits.{AreGiven, Inside, FitsTarget}
 use Rattle.kt_prog.specs.declared.scope.Local.{Local}
 use Rattle.kt_prog.specs.declared.scope.Bound.{Bound}
 use Rattle.kt_prog.specs.declared.scope.Bound.TheVariants as B
@@ -34,7 +35,7 @@ use Rattle.kt_prog.specs.declared.programs.ArgWhat.TheVariants as A
 use Rattle.kt_prog.specs.declared.programs.Expr.{Expr, Expr-F, out-Expr}
 use Rattle.kt_prog.specs.declared.programs.Expr.TheOpen as E
 use Rattle.kt_prog.proofs.Good.{Good, good_give, good_then, good_test, good_fork}
-use Rattle.kt_prog.proofs.Lists.{left_none, right_none, not_denied, not_false, some_more, each_snoc, pick, both_hold}
+use Rattle.kt_prog.proofs.Lists.{left_none, right_none, not_denied, not_false, each_snoc, both_hold}
 use Rattle.kt_prog.proofs.Matches.{HasRight, Found, FamiliesMatch, Agrees, looked}
 use Rattle.kt_prog.proofs.Values.{D, view_of, expr_keeps}
 
@@ -61,7 +62,7 @@ module _ (lost : Script → Script) (site : Site) (rights : List Access) (own : 
       → HasCover want lo' hi'
   cover have want lo hi lo' hi' h r l k = some_more (λ (a : Access). (a.lo ≤ lo) × (hi ≤ a.hi) × (a.mode ≡ have))
       (Covers (record { lo = lo'; hi = hi'; mode = want }))
-      (λ a x. (omega arith, omega arith, subst (λ (m : Mode). hands_on_of m want ≡ true) (sym x.2) h)) rights r
+      (λ a x. record { from = omega arith; below = omega arith; hands_on = subst (λ (m : Mode). hands_on_of m want ≡ true) (sym x.2) h }) rights r
 
   abbrev pub GoodAt : {X : Type 0} → (X → Type 0) → Step X → Type 0
   GoodAt = Good (D lost site rights own H fam) H
@@ -157,7 +158,7 @@ module _ (lost : Script → Script) (site : Site) (rights : List Access) (own : 
       inside_of : (mode : Mode) (lo hi : ℕ) → HasCover mode lo hi → hi ≤ objects
       inside_of mode lo hi c = let k = pick (Inside objects) (Covers (record { lo = lo; hi = hi; mode = mode })) rights room c in
           let e : k.0.hi ≤ objects = k.1 in
-          let f : hi ≤ k.0.hi = k.2.1 in
+          let f : hi ≤ k.0.hi = k.2.below in
           omega arith
 
       int_more : (sorts : List Sort) (g : Given) (n : ℕ) → Given_so (S.Int ∷ sorts) g → Given_so sorts (with_int g n)

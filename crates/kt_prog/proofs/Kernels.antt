@@ -9,16 +9,17 @@ use Rattle.kt_law.specs.declared.operators.Op.TheVariants.{Add, Min}
 use Rattle.kt_law.specs.declared.modes.Mode.{Mode}
 use Rattle.kt_law.specs.declared.modes.Mode.TheVariants.{R, W, X, Cw}
 use Rattle.kt_law.specs.declared.accesses.Access.{Access}
+use Rattle.kt_rights.specs.Rights.{SomeOf, Permits, Allowed, lets}
+use Rattle.kt_rights.proofs.Lists.{some_more}
 use Rattle.kt_prog.specs.Calls.{Job}
 use Rattle.kt_prog.specs.Script.{Step}
 use Rattle.kt_law.specs.PlainKernels.{tile, sum_below, least_below, mul_of, minplus_of, stencil_of, scan_of}
 use Rattle.kt_prog.specs.Kernels.{load_all, perform_all, object_at, is_side, has, product, smooth, stencil_body, scan_body, kernel_body}
-use Rattle.kt_prog.specs.Rights.{SomeOf, Permits, Allowed, lets}
 use Rattle.kt_prog.specs.Fits.{AreGiven, kernel_at}
 use Rattle.kt_prog.specs.Targets.{Target}
 use Rattle.kt_prog.specs.declared.programs.Sort.TheVariants as S
 use Rattle.kt_prog.proofs.Good.{Good, good_give, good_then, good_test, good_load, good_perform}
-use Rattle.kt_prog.proofs.Lists.{both_hold, some_more}
+use Rattle.kt_prog.proofs.Lists.{both_hold}
 
 length-tile : (f : ℕ → ℕ → ℕ) (n q : ℕ) → length (tile f n q) ≡ n * q
 length-tile f n q = length-map-range_with_len (λ e. f (e / q) (e % q)) 0 (n * q)
@@ -50,7 +51,7 @@ module _ (widths : ℕ → ℕ) (rights : List Access) (H : Job → Type 0) wher
   may mode o e deed l lt h = (
     lt,
     some_more (λ (a : Access). (a.lo ≤ o) × (suc o ≤ a.hi) × (a.mode ≡ mode)) (Permits None (record { object = o; element = e; deed = deed }))
-        (λ a x. (x.0, omega arith, subst (λ (m : Mode). lets m deed ≡ true) (sym x.2) l, tt)) rights h,
+        (λ a x. record { object = record { from = x.0; below = omega arith }; lets = subst (λ (m : Mode). lets m deed ≡ true) (sym x.2) l; owns = tt }) rights h,
   )
 
   loads_good : (mode : Mode) (o from n : ℕ) → lets mode Load ≡ true → Has mode o → from + n ≤ widths o

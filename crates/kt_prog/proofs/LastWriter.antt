@@ -17,7 +17,8 @@ use Rattle.kt_prog.specs.Bodies.{script_of}
 use Rattle.kt_prog.specs.Accepted.{IsAccepted}
 use Rattle.kt_prog.specs.Fits.{Fits, is_main, FitsJob}
 use Rattle.kt_prog.specs.Rights.{Directly, Forks}
-use Rattle.kt_prog.specs.Store.{place_of, effect, after, is_load}
+use Rattle.kt_rights.specs.Acts.{effect, is_load}
+use Rattle.kt_prog.specs.Store.{place_of, after}
 use Rattle.kt_prog.specs.Reference.{Placed, placed_fork, placed, main_placed, machine_of, opened_with, reference}
 use Rattle.kt_prog.specs.LastWriter.{operations_in, written, LoadsFindLastWritten}
 use Rattle.kt_prog.specs.declared.programs.Program.{Program}

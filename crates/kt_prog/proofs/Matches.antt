@@ -9,7 +9,7 @@ use Rattle.kt_prog.specs.Scope.{Scope, known_of, family_known, kind_of}
 use Rattle.kt_prog.specs.declared.sight.Known.{Known}
 use Rattle.kt_prog.specs.declared.sight.Kind.TheVariants.{Number, Variable, Index, One, Many}
 use Rattle.kt_prog.specs.declared.sight.Kind.{Kind}
-use Rattle.kt_prog.specs.Rights.{SomeOf}
+use Rattle.kt_rights.specs.Rights.{SomeOf}
 use Rattle.kt_prog.specs.declared.scope.Local.{Local}
 use Rattle.kt_prog.specs.declared.scope.Bound.{Bound}
 use Rattle.kt_prog.specs.declared.scope.Bound.TheVariants as B

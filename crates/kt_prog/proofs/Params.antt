@@ -11,9 +11,9 @@ use Rattle.kt_prog.specs.Scope.{kind_sort, known_param, known_of}
 use Rattle.kt_prog.specs.declared.sight.Known.{Known}
 use Rattle.kt_prog.specs.Rules.{denied}
 use Rattle.kt_prog.specs.Declarations.{Counts, sort_rule, counted, param_rules}
-use Rattle.kt_prog.specs.Rights.{SomeOf}
+use Rattle.kt_rights.specs.Rights.{SomeOf, EachOf}
 use Rattle.kt_prog.specs.Laws.{IsDirect}
-use Rattle.kt_prog.specs.Fits.{EachOf, GivenOne, AreGiven}
+use Rattle.kt_prog.specs.Fits.{GivenOne, AreGiven}
 use Rattle.kt_prog.specs.declared.scope.Local.{Local}
 use Rattle.kt_prog.specs.declared.programs.Param.{Param}
 use Rattle.kt_prog.specs.declared.programs.Sort.{Sort}

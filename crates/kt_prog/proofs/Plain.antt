@@ -17,8 +17,9 @@ use Rattle.kt_prog.specs.StatementRules.{block_rules, rules_of_stmt}
 use Rattle.kt_prog.specs.Declarations.{no_params, declared_in, names_twice, main_rules, family_rules, count_rules, param_rules}
 use Rattle.kt_prog.specs.Accepted.{task_scope, main_scope, task_rules, mains_rules, broken, IsAccepted}
 use Rattle.kt_prog.specs.Laws.{IsDirect, LoopsAreDirect}
-use Rattle.kt_prog.specs.Rights.{SomeOf, Covers, Allowed, HandsOn, rights_at, rights_of, Directly, Forks}
-use Rattle.kt_prog.specs.Fits.{EachOf, Inside, FitsTarget, target_at, task_target, kernel_at, Fits, is_main, is_call, FitsJob}
+use Rattle.kt_rights.specs.Rights.{SomeOf, EachOf, Covers, Allowed}
+use Rattle.kt_prog.specs.Rights.{MayFork, rights_at, rights_of, Directly, Forks}
+use Rattle.kt_prog.specs.Fits.{Inside, FitsTarget, target_at, task_target, kernel_at, Fits, is_main, is_call, FitsJob}
 use Rattle.kt_prog.specs.declared.scope.Local.{Local}
 use Rattle.kt_prog.specs.declared.programs.Program.{Program}
 use Rattle.kt_prog.specs.declared.programs.Task.{Task}
@@ -78,7 +79,7 @@ Nothing x = Unit {0}
 module _ (lost : Script → Script) (p : Program) (ok : Parts p) where
   -- a fork hands a call on that fits
   handed : (rights : List Access) (depth : ℕ) (own : Option ℕ) (H : Job → Type 0)
-      → ((call : CallTree) → own ≡ None → HandsOn p rights depth call → H (Whole call))
+      → ((call : CallTree) → own ≡ None → MayFork p rights depth call → H (Whole call))
       → own ≡ None → (name : List ℕ) (t : Target) → target_of p.tasks name ≡ Some t → (call : CallTree)
       → FitsTarget (objects_of p.families) call t → call.depth ≡ suc depth → EachOf (λ b. SomeOf (Covers b) rights) call.accesses
       → H (Whole call)
@@ -114,7 +115,7 @@ module _ (lost : Script → Script) (p : Program) (ok : Parts p) where
 
   -- statements of a task or of an index
   module _ (rights : List Access) (depth : ℕ) (own : Option ℕ) (H : Job → Type 0)
-      (on : (call : CallTree) → own ≡ None → HandsOn p rights depth call → H (Whole call))
+      (on : (call : CallTree) → own ≡ None → MayFork p rights depth call → H (Whole call))
       (room : EachOf (Inside (objects_of p.families)) rights) where
     statements_good : (in_main : Bool) (fam : in_main ≡ true → FamiliesMatch (site_of p in_main depth) rights own) (s : Scope)
         (locals : List Local) (body : List Stmt)
@@ -128,7 +129,7 @@ module _ (lost : Script → Script) (p : Program) (ok : Parts p) where
 
   pub task_good : (call : CallTree) (t : Task) (n : ℕ) (H : Job → Type 0) → RulesOf t → t.index ≡ None
       → FitsTarget (objects_of p.families) call (target n t)
-      → ((child : CallTree) → HandsOn p call.accesses call.depth child → H (Whole child))
+      → ((child : CallTree) → MayFork p call.accesses call.depth child → H (Whole child))
       → Good (Allowed (width_of p.families) call.accesses None) H Nothing (task_body lost p call (Some t))
   task_good call t n H r none fits on =
       let site = site_of p false call.depth in
@@ -180,7 +181,7 @@ module _ (lost : Script → Script) (p : Program) (ok : Parts p) where
       }) r.body
 
   main_good : (mains : List Main) (H : Job → Type 0) → main_rules p.end mains ≡ [] → mains_rules p mains ≡ []
-      → ((child : CallTree) → HandsOn p (rights_at (objects_of p.families) [] 0) 0 child → H (Whole child))
+      → ((child : CallTree) → MayFork p (rights_at (objects_of p.families) [] 0) 0 child → H (Whole child))
       → Good (Allowed (width_of p.families) (rights_at (objects_of p.families) [] 0) None) H Nothing (main_body lost p mains)
   main_good [] H there h on = cc
   main_good (m ∷ mains) H there h on =
@@ -203,7 +204,7 @@ module _ (lost : Script → Script) (p : Program) (ok : Parts p) where
       → FitsTarget (objects_of p.families) call (target n t) → rights_of p call ≡ call.accesses
       → Good (Allowed (width_of p.families) call.accesses None) (Forks p (Whole call)) Nothing (task_or_loop lost p call (Some t) x)
   body_good call t n None e r fits same =
-      task_good call t n (Forks p (Whole call)) r e fits (λ child h. subst (λ (rights : List Access). HandsOn p rights call.depth child) (sym same) h)
+      task_good call t n (Forks p (Whole call)) r e fits (λ child h. subst (λ (rights : List Access). MayFork p rights call.depth child) (sym same) h)
   body_good call t n (Some index) e r fits same = indexes_good call (Allowed (width_of p.families) call.accesses None) 0 call.length (omega arith)
 
   numbered_good : (call : CallTree) (k : ℕ) (t : Target) → call.task ≡ suc k → target_at p.tasks (suc k) ≡ Some t
@@ -236,8 +237,8 @@ module _ (lost : Script → Script) (p : Program) (ok : Parts p) where
       let same : rights_of p call ≡ rights_at (objects_of p.families) [] 0 = ap (rights_at (objects_of p.families) call.accesses) e in
       subst (λ (rights : List Access). Good (Allowed (width_of p.families) rights None) (Forks p (Whole call)) Nothing (main_body lost p p.mains)) (sym same)
       (main_good p.mains (Forks p (Whole call)) ok.main ok.mains
-      (λ child h. subst (λ (rights : List Access). HandsOn p rights call.depth child) (sym same)
-      (subst (λ (d : ℕ). HandsOn p (rights_at (objects_of p.families) [] 0) d child) (sym deep) h)))
+      (λ child h. subst (λ (rights : List Access). MayFork p rights call.depth child) (sym same)
+      (subst (λ (d : ℕ). MayFork p (rights_at (objects_of p.families) [] 0) d child) (sym deep) h)))
   after_good call zero e (is_call t is fits) = absurd (no_target (subst (λ (n : ℕ). target_at p.tasks n ≡ Some t) e is))
     where
       no_target : target_at p.tasks 0 ≡ Some t → ⊥

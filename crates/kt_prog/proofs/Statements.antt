@@ -23,8 +23,8 @@ use Rattle.kt_prog.specs.declared.sight.Kind.{Kind}
 use Rattle.kt_prog.specs.Rules.{breaches_in, rules_of, denied, new_name, set_rule, element_rule, store_rule, fold_rule}
 use Rattle.kt_prog.specs.ForkRules.{fork_rule}
 use Rattle.kt_prog.specs.StatementRules.{StmtRules, block_rules, what_rules, stmt_rules, rules_of_what, rules_of_stmt}
-use Rattle.kt_prog.specs.Rights.{SomeOf, Covers, Owns}
-use Rattle.kt_prog.specs.Fits.{EachOf, Inside, FitsTarget}
+use Rattle.kt_rights.specs.Rights.{SomeOf, EachOf, Covers, Owns}
+use Rattle.kt_prog.specs.Fits.{Inside, FitsTarget}
 use Rattle.kt_prog.specs.declared.scope.TheConstants.{NAMES}
 use Rattle.kt_prog.specs.declared.scope.Local.{Local}
 use Rattle.kt_prog.specs.declared.scope.Bound.TheVariants as B

@@ -3,6 +3,8 @@ use Rattle.std.proofs.Common.{◌≡◌, ◌≤◌, ℕ, suc, Bool, true, false,
 use Rattle.std.proofs.lemmas.Bool.Decides.{nat_tests}
 use Rattle.kt_law.specs.Operators.{apply_of}
 use Rattle.kt_law.specs.Modes.{is_owned}
+use Rattle.kt_rights.specs.Rights.{lets, Owns, Permits, Allowed}
+use Rattle.kt_rights.proofs.Lists.{some_more}
 use Rattle.kt_law.specs.Acts.{Act, Deed, Load}
 use Rattle.kt_law.specs.declared.faults.F.TheVariants.{F1, F2}
 use Rattle.kt_law.specs.declared.places.P.TheVariants.{P10, P11}
@@ -18,14 +20,13 @@ use Rattle.kt_prog.specs.Scope.{Scope, kind_of}
 use Rattle.kt_prog.specs.declared.sight.Kind.TheVariants.{Number, Variable, Index, One, Many}
 use Rattle.kt_prog.specs.declared.sight.Kind.{Kind}
 use Rattle.kt_prog.specs.Rules.{Breaches, ExprRules, expr_rules, rules_of, number_rule, element_rule, is_index, at_index, own_rule, load_rule}
-use Rattle.kt_prog.specs.Rights.{lets, Owns, Permits, Allowed}
 use Rattle.kt_prog.specs.declared.scope.Local.{Local}
 use Rattle.kt_prog.specs.declared.scope.Bound.{Bound}
 use Rattle.kt_prog.specs.declared.scope.Bound.TheVariants as B
 use Rattle.kt_prog.specs.declared.programs.Expr.{Expr, Expr-F, roll-Expr, map-Expr, fold-roll-Expr, ind-Expr}
 use Rattle.kt_prog.specs.declared.programs.Expr.TheOpen as E
 use Rattle.kt_prog.proofs.Good.{Good, good_give, good_then, good_stop, good_test, good_load}
-use Rattle.kt_prog.proofs.Lists.{left_none, right_none, not_denied, not_false, some_more}
+use Rattle.kt_prog.proofs.Lists.{left_none, right_none, not_denied, not_false}
 use Rattle.kt_prog.proofs.Matches.{HasRight, Found, LoopOk, FamiliesMatch, Agrees, looked}
 
 own_lemma : (o : Option ℕ) (b t : Bool) (mode : Mode) (i : ℕ) → (b && is_owned mode && not t) ≡ false → (site : Site) (rights : List Access)
@@ -93,7 +94,11 @@ module _ (lost : Script → Script) (site : Site) (rights : List Access) (own : 
   allowed mode object i deed lt l o r = (
     grind (arith, nat_tests),
     some_more (λ (a : Access). (a.lo ≤ object) × (suc object ≤ a.hi) × (a.mode ≡ mode)) (Permits own (record { object = object; element = i; deed = deed }))
-        (λ a h. (h.0, omega arith, subst (λ (m : Mode). lets m deed ≡ true) (sym h.2) l, subst (λ (m : Mode). Owns own m i) (sym h.2) o)) rights r,
+        (λ a h. record {
+          object = record { from = h.0; below = omega arith };
+          lets = subst (λ (m : Mode). lets m deed ≡ true) (sym h.2) l;
+          owns = subst (λ (m : Mode). Owns own m i) (sym h.2) o;
+        }) rights r,
   )
 
   pub owned : (s : Scope) (locals : List Local) (bare : Option (List ℕ)) (place : Place) (mode : Mode) (i : ℕ)

@@ -4,10 +4,10 @@ use Rattle.kt_law.specs.Acts.{Store}
 use Rattle.kt_law.specs.declared.modes.Mode.{Mode}
 use Rattle.kt_law.specs.declared.modes.Mode.TheVariants as M
 use Rattle.kt_law.specs.declared.accesses.Access.{Access}
+use Rattle.kt_rights.specs.Rights.{SomeOf, Permits, Allowed}
 use Rattle.kt_prog.specs.Calls.{Job}
 use Rattle.kt_prog.specs.Script.{Step}
 use Rattle.kt_prog.specs.Zeroing.{zero_elements, zero_objects, zero_access, zero_all}
-use Rattle.kt_prog.specs.Rights.{SomeOf, Permits, Allowed}
 use Rattle.kt_prog.proofs.Good.{Good, good_give, good_then, good_perform}
 
 module _ (widths : ℕ → ℕ) (rights : List Access) (H : Job → Type 0) where
@@ -35,7 +35,7 @@ module _ (widths : ℕ → ℕ) (rights : List Access) (H : Job → Type 0) wher
 
   zeros_access : (a : Access) (mode : Mode) → a.mode ≡ mode → ((P : Access → Type 0) → P a → SomeOf P rights)
       → GoodAt Nothing (zero_access widths a mode)
-  zeros_access a M.W is among = zeros_objects a.lo (a.hi - a.lo) (λ k le lt e. among _ (le, omega arith, rw is refl, tt))
+  zeros_access a M.W is among = zeros_objects a.lo (a.hi - a.lo) (λ k le lt e. among _ (record { object = record { from = le; below = omega arith }; lets = rw is refl; owns = tt }))
   zeros_access a M.R is among = good_give _ H Nothing tt tt
   zeros_access a M.X is among = good_give _ H Nothing tt tt
   zeros_access a (M.Cw op) is among = good_give _ H Nothing tt tt

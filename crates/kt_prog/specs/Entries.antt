@@ -2,7 +2,7 @@
 use Rattle.std.specs.Prelude.{ℕ, List, [], ◌∷◌, Option, Some, None}
 use Rattle.std.specs.List.{flat_map}
 use Rattle.kt_order.specs.Sequential.{Entry}
-use Rattle.kt_prog.specs.Calls.{Job, Whole, Index}
+use Rattle.kt_prog.specs.Calls.{Job, Whole, Index, index_of}
 use Rattle.kt_prog.specs.Script.{Fault}
 use Rattle.kt_prog.specs.Reference.{Placed, machine_of}
 use Rattle.kt_prog.specs.Runs.{TaskRun, IndexRun, FaultRun}
@@ -15,11 +15,6 @@ task_in path (Index call i) answers = []
 abbrev pub index_in : List ℕ → Job → List ℕ → List IndexRun
 index_in path (Whole call) answers = []
 index_in path (Index call i) answers = record { path = path; index = i; answers = answers } ∷ []
-
--- which index's body it is, none for the body of a call
-abbrev pub index_of : Job → Option ℕ
-index_of (Whole call) = None
-index_of (Index call i) = Some i
 
 abbrev pub fault_in : Placed → Option Fault → List FaultRun
 fault_in c None = []

@@ -3,6 +3,7 @@ use Rattle.std.specs.Prelude.{◌≡◌, ◌≤◌, ◌<◌, ℕ, zero, suc, ◌
 use Rattle.kt_law.specs.Accesses.{clashes}
 use Rattle.kt_law.specs.declared.limits.TheConstants.{DEFINITIONS, DEPTH, LENGTH}
 use Rattle.kt_law.specs.declared.accesses.Access.{Access}
+use Rattle.kt_rights.specs.Rights.{EachOf}
 use Rattle.kt_prog.specs.Calls.{CallTree, main_call, Job, Whole, Index}
 use Rattle.kt_prog.specs.Objects.{objects_of}
 use Rattle.kt_prog.specs.Targets.{Target, target, mul, minplus, stencil, scan}
@@ -10,10 +11,6 @@ use Rattle.kt_prog.specs.declared.programs.Program.{Program}
 use Rattle.kt_prog.specs.declared.programs.Task.{Task}
 use Rattle.kt_prog.specs.declared.programs.Sort.{Sort}
 use Rattle.kt_prog.specs.declared.programs.Sort.TheVariants as S
-
-abbrev pub EachOf : (Access → Type 0) → List Access → Type 0
-EachOf P [] = Unit {0}
-EachOf P (a ∷ rest) = P a × EachOf P rest
 
 -- the next int or access is that of a parameter, with its mode and for a single object with one member, and the others are as Rest says
 abbrev pub GivenOne : Sort → List ℕ → List Access → (List ℕ → List Access → Type 0) → Type 0

@@ -4,9 +4,10 @@ use Rattle.std.specs.List.{flat_map}
 use Rattle.kt_law.specs.Acts.{Load}
 use Rattle.kt_order.specs.Sequential.{Entry}
 use Rattle.kt_order.specs.Trace.{Operation, Acted, Forked, Ended, trace}
+use Rattle.kt_rights.specs.Acts.{effect}
 use Rattle.kt_prog.specs.Objects.{first_element_of, inputs_of}
 use Rattle.kt_prog.specs.Accepted.{IsAccepted}
-use Rattle.kt_prog.specs.Store.{place_of, effect}
+use Rattle.kt_prog.specs.Store.{place_of}
 use Rattle.kt_prog.specs.Reference.{machine_of, opened_with, reference}
 use Rattle.kt_prog.specs.declared.programs.Program.{Program}
 

@@ -4,12 +4,13 @@ use Rattle.kt_law.specs.Modes.{is_postponed}
 use Rattle.kt_law.specs.declared.accesses.Access.{Access}
 use Rattle.kt_law.specs.declared.limits.TheConstants.{ELEMENTS, OBJECTS}
 use Rattle.kt_order.specs.Body.{Keeps}
+use Rattle.kt_rights.specs.Rights.{EachOf}
 use Rattle.kt_prog.specs.Calls.{CallTree, Job, Index}
 use Rattle.kt_prog.specs.Script.{Script}
 use Rattle.kt_prog.specs.Objects.{objects_of, elements_of}
 use Rattle.kt_prog.specs.Bodies.{script_with}
 use Rattle.kt_prog.specs.Accepted.{IsAccepted}
-use Rattle.kt_prog.specs.Fits.{EachOf, FitsJob}
+use Rattle.kt_prog.specs.Fits.{FitsJob}
 use Rattle.kt_prog.specs.Rights.{Directly, Forks}
 use Rattle.kt_prog.specs.declared.programs.Program.{Program}
 

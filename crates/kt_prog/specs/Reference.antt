@@ -2,13 +2,14 @@
 use Rattle.std.specs.Prelude.{ℕ, suc, ◌-◌, ◌*◌, List, [], ◌∷◌, ◌++◌, take, drop, replicate, if◌then◌else◌}
 use Rattle.kt_law.specs.Acts.{Act}
 use Rattle.kt_law.specs.declared.limits.TheConstants.{DEPTH}
+use Rattle.kt_rights.specs.Acts.{is_load}
 use Rattle.kt_order.specs.Body.{Body, Stop, Do, Fork}
 use Rattle.kt_order.specs.Machine.{Machine}
 use Rattle.kt_order.specs.Sequential.{Run, whole}
 use Rattle.kt_prog.specs.Calls.{main_call, Job, Whole, Index}
 use Rattle.kt_prog.specs.Script.{Fault, Script}
 use Rattle.kt_prog.specs.Bodies.{script_of}
-use Rattle.kt_prog.specs.Store.{after, answer, is_load}
+use Rattle.kt_prog.specs.Store.{after, answer}
 use Rattle.kt_prog.specs.declared.programs.Program.{Program}
 use Rattle.kt_prog.specs.declared.programs.Family.{Family}
 

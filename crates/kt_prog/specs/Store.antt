@@ -1,7 +1,7 @@
 -- The plain store: one list of numbers, the elements of all objects in the order of their numbers.
-use Rattle.std.specs.Prelude.{ℕ, ◌+◌, List, Bool, true, false, slice_index, slice_set}
-use Rattle.kt_law.specs.Acts.{Act, Deed, Load, Store, Fold}
-use Rattle.kt_law.specs.Operators.{fold_of}
+use Rattle.std.specs.Prelude.{ℕ, ◌+◌, List, slice_index, slice_set}
+use Rattle.kt_law.specs.Acts.{Act}
+use Rattle.kt_rights.specs.Acts.{effect, found}
 use Rattle.kt_prog.specs.Objects.{first_element_of}
 use Rattle.kt_prog.specs.declared.programs.Family.{Family}
 
@@ -9,27 +9,17 @@ use Rattle.kt_prog.specs.declared.programs.Family.{Family}
 abbrev pub place_of : List Family → Act → ℕ
 place_of families act = first_element_of families act.object + act.element
 
--- what a deed makes of a number
-abbrev pub effect : Deed → ℕ → ℕ
-effect Load a = a
-effect (Store v) a = v
-effect (Fold op v) a = fold_of op a v
+-- the number of an object's element
+abbrev pub look : List Family → ℕ → ℕ → List ℕ → ℕ
+look families object element store = slice_index store (first_element_of families object + element)
+
+-- the store with that number changed
+abbrev pub change : List Family → ℕ → ℕ → (ℕ → ℕ) → List ℕ → List ℕ
+change families object element f store = let e = first_element_of families object + element in slice_set store e (f (slice_index store e))
 
 -- the store after an act
 abbrev pub after : List Family → Act → List ℕ → List ℕ
-after families act store = let e = place_of families act in slice_set store e (effect act.deed (slice_index store e))
-
--- only a load answers
-abbrev pub is_load : Deed → Bool
-is_load Load = true
-is_load (Store v) = false
-is_load (Fold op v) = false
-
--- what a deed answers where it finds this number, 0 where it answers nothing
-abbrev pub found : Deed → ℕ → ℕ
-found Load a = a
-found (Store v) a = 0
-found (Fold op v) a = 0
+after families act store = change families act.object act.element (effect act.deed) store
 
 abbrev pub answer : List Family → Act → List ℕ → ℕ
-answer families act store = found act.deed (slice_index store (place_of families act))
+answer families act store = found act.deed (look families act.object act.element store)

@@ -2,9 +2,10 @@
 use Rattle.std.proofs.Common.{◌≡◌, ℕ, false, inl, refl, arith}
 use Rattle.kt_law.specs.Accesses.{clashes}
 use Rattle.kt_order.specs.Body.{Keeps}
-use Rattle.kt_rights.specs.Plan.{IsOnePlace}
+use Rattle.kt_rights.specs.Plan.{IsStore}
 use Rattle.kt_rights.specs.Rights.{Directly, Handed, EndsWithIndexes, Obeys}
 use Rattle.kt_rights.specs.Example.{Adding, Main, Adder, adding}
+use Rattle.kt_rights.proofs.RowStores.{rows_other, rows_same, rows_look, rows_still}
 
 handed : (n : ℕ) → Handed adding Main (Adder n)
 handed n = record {
@@ -25,8 +26,13 @@ ends : (c : Adding) → EndsWithIndexes adding (adding.tree c)
 ends Main = (inl refl, (inl refl, tt))
 ends (Adder n) = λ a. tt
 
-one_place : IsOnePlace adding
-one_place o e o' e' x y same = (omega (arith, x, y, same), omega (arith, x, y))
+store : IsStore adding
+store = record {
+  look_other = λ o e o' e' f s x y ne. rows_look o e o' e' f s ne;
+  other = λ o e o' e' f g s x y ne. rows_other o e o' e' f g s ne;
+  same = rows_same;
+  still = rows_still;
+}
 
 pub adding_obeys : Obeys adding
-adding_obeys = record { unalike = λ c fits. unalike c; keeps = λ c fits. keeps c; indexes = λ c fits. ends c; one_place = one_place }
+adding_obeys = record { unalike = λ c fits. unalike c; keeps = λ c fits. keeps c; indexes = λ c fits. ends c; store = store }

@@ -5,7 +5,8 @@ use Rattle.kt_law.specs.declared.operators.Op.{Op}
 use Rattle.kt_law.specs.declared.operators.Op.TheVariants as O
 use Rattle.kt_law.specs.declared.modes.Mode.{Mode}
 use Rattle.kt_law.specs.declared.modes.Mode.TheVariants as M
-use Rattle.kt_rights.specs.Acts.{Deed, Load, Store, Fold, is_load}
+use Rattle.kt_law.specs.Acts.{Deed, Load, Store, Fold}
+use Rattle.kt_rights.specs.Acts.{is_load}
 use Rattle.kt_rights.specs.Rights.{lets, has, is_fold}
 
 -- two deeds that may be done in either order on one element: two loads, or two values cumulated by one law

@@ -1,6 +1,7 @@
 pub mod Deeds
 pub mod Lists
 pub mod Stores
+pub mod RowStores
 pub mod Meets
 pub mod Tables
 pub mod Members

@@ -5,7 +5,7 @@ use Rattle.kt_law.specs.Accesses.{HasObject, clash_of, clashes, clash_between}
 use Rattle.kt_law.specs.declared.modes.Mode.{Mode}
 use Rattle.kt_law.specs.declared.modes.Mode.TheVariants as M
 use Rattle.kt_law.specs.declared.accesses.Access.{Access}
-use Rattle.kt_rights.specs.Acts.{Act, Deed}
+use Rattle.kt_law.specs.Acts.{Act, Deed}
 use Rattle.kt_rights.specs.Rights.{SomeOf, EachOf, lets, has, Permits, Touches, Covers}
 use Rattle.kt_rights.proofs.Deeds.{DeedsAgree, deeds_turned, same_self, agree_deeds, hands_has, lets_has, used_agrees}
 use Rattle.kt_rights.proofs.Lists.{some_more, some_each, pick, met_agree, none_between, two}

@@ -1,14 +1,15 @@
 -- The tables of modes give the laws of the theory.
 use Rattle.std.proofs.Common.{◌≡◌, ℕ, false, Option, Some, None, ◌⊎◌, inl, inr, refl, sym, subst}
+use Rattle.kt_law.specs.Acts.{Act, Deed, Load, Store, Fold}
 use Rattle.kt_law.specs.Laws.{FoldAssociates, FoldCommutes}
 use Rattle.kt_order.specs.Body.{Keeps, Stop, Do, Fork}
 use Rattle.kt_order.specs.Machine.{Machine, Code}
 use Rattle.kt_order.specs.Laws.{Acts, Commutes, Within, Laws}
 use Rattle.kt_order.specs.Laws as order
-use Rattle.kt_rights.specs.Acts.{Act, Deed, Load, Store, Fold, is_load, found}
-use Rattle.kt_rights.specs.Plan.{Plan, machine, place_of, number_at}
+use Rattle.kt_rights.specs.Acts.{is_load, found}
+use Rattle.kt_rights.specs.Plan.{Plan, machine}
 use Rattle.kt_rights.specs.Rights.{SomeOf, Permits, Touches, There, Directly, MayDo, HandsOn, HasIndex, Handed, Apart, rights, EndsWithIndexes, Obeys}
-use Rattle.kt_rights.proofs.Deeds.{DeedsAgree, deeds_turned, lets_has}
+use Rattle.kt_rights.proofs.Deeds.{deeds_turned, lets_has}
 use Rattle.kt_rights.proofs.Lists.{some_more}
 use Rattle.kt_rights.proofs.Stores.{stores_swap, found_same}
 use Rattle.kt_rights.proofs.Meets.{MeetAgree, between_agree, forked_agree, covered_touches, indexes_agree}
@@ -27,14 +28,11 @@ module _ (associates : FoldAssociates) (commutes : FoldCommutes) (p : Plan) (obe
 
   -- acts that agree where they meet commute
   acts_commute : (q r : Act) → There p q → There p r → MeetAgree q r → Commutes m q r
-  acts_commute q r tq tr h =
-      let meets : place_of p q ≡ place_of p r → DeedsAgree q.deed r.deed = λ e.
-      let one = obeys.one_place q.object q.element r.object r.element tq tr e in h one.0 one.1 in
-      record {
-        stores = stores_swap associates commutes (place_of p q) (place_of p r) q.deed r.deed meets;
-        first = λ s. found_same q.deed r.deed (place_of p q) (place_of p r) s meets;
-        second = λ s. found_same r.deed q.deed (place_of p r) (place_of p q) s (λ e. deeds_turned q.deed r.deed (meets (sym e)));
-      }
+  acts_commute q r tq tr h = record {
+    stores = stores_swap associates commutes p obeys.store q.object q.element r.object r.element tq tr q.deed r.deed h;
+    first = λ s. found_same p obeys.store q.object q.element r.object r.element s tq tr q.deed r.deed h;
+    second = λ s. found_same p obeys.store r.object r.element q.object q.element s tr tq r.deed q.deed (λ e e'. deeds_turned q.deed r.deed (h (sym e) (sym e')));
+  }
 
   apart_commutes : (c d : p.Call) (q r : Act) → Apart p c d → MayDo p c r → MayDo p d q → Commutes m q r
   apart_commutes c d q r (inl h) x y = acts_commute q r y.0 x.0 (λ e e'. deeds_turned r.deed q.deed (between_agree (p.accesses c) (p.accesses d) (p.own c) (p.own d) r q h x.1 y.1 (sym e) (sym e')))
@@ -90,6 +88,6 @@ module _ (associates : FoldAssociates) (commutes : FoldCommutes) (p : Plan) (obe
     fits = λ c d h. h.fits;
     inherits = λ c d q h may. inherits c d q h.how may;
     apart = λ c d q r h x y. apart_commutes c d q r h x y;
-    quiet = λ q s e. silent q.deed (number_at (place_of p q) s) e;
+    quiet = λ q s e. silent q.deed (p.look q.object q.element s) e;
     lower = λ c d h. h.lower;
   }

@@ -1,11 +1,12 @@
 -- A small program that keeps to its accesses: main forks two calls that each add to one element.
-use Rattle.std.specs.Prelude.{ℕ, ◌+◌, List, [], ◌∷◌, None}
+use Rattle.std.specs.Prelude.{ℕ, List, [], ◌∷◌, None}
+use Rattle.kt_law.specs.Acts.{Act, Fold}
 use Rattle.kt_law.specs.declared.operators.Op.TheVariants as O
 use Rattle.kt_law.specs.declared.modes.Mode.TheVariants as M
 use Rattle.kt_law.specs.declared.accesses.Access.{Access}
 use Rattle.kt_order.specs.Body.{Body, Stop, Do, Fork}
-use Rattle.kt_rights.specs.Acts.{Act, Fold}
 use Rattle.kt_rights.specs.Plan.{Plan}
+use Rattle.kt_rights.specs.Rows.{Rows, row_at, with_row}
 use Rattle.kt_rights.specs.Rights.{Obeys}
 
 pub data Adding : Type 0 where
@@ -35,7 +36,9 @@ adding = record {
   accesses = adding_accesses;
   own = λ c. None;
   width = λ object. 1;
-  place = λ object element. object + element;
+  Store = Rows;
+  look = row_at;
+  change = with_row;
 }
 
 -- so the premise of the laws can be met

@@ -1,9 +1,10 @@
--- A program of calls with accesses, over one list of numbers, as a machine of the theory of reordering.
-use Rattle.std.specs.Prelude.{◌≡◌, ℕ, zero, suc, ◌<◌, List, [], ◌∷◌, Option}
+-- A program of calls with accesses, over a store of elements, as a machine of the theory of reordering.
+use Rattle.std.specs.Prelude.{◌≡◌, ℕ, ◌<◌, List, Option}
+use Rattle.kt_law.specs.Acts.{Act}
 use Rattle.kt_law.specs.declared.accesses.Access.{Access}
 use Rattle.kt_order.specs.Body.{Body}
 use Rattle.kt_order.specs.Machine.{Machine}
-use Rattle.kt_rights.specs.Acts.{Act, is_load, effect, found}
+use Rattle.kt_rights.specs.Acts.{is_load, effect, found}
 
 -- A call here is a call with all that its body does, or one index of a loop's call.
 pub record Plan : Type 1 where
@@ -17,34 +18,23 @@ pub record Plan : Type 1 where
   pub accesses : Call → List Access
   -- which index it is
   pub own : Call → Option ℕ
-  -- the number of elements of an object, and where an element stands in the list
+  -- the number of elements of an object
   pub width : ℕ → ℕ
-  pub place : ℕ → ℕ → ℕ
-
--- the number at a place, 0 where there is none
-abbrev pub number_at : ℕ → List ℕ → ℕ
-number_at e [] = 0
-number_at zero (x ∷ xs) = x
-number_at (suc e) (x ∷ xs) = number_at e xs
-
-abbrev pub modify : ℕ → (ℕ → ℕ) → List ℕ → List ℕ
-modify e f [] = []
-modify zero f (x ∷ xs) = f x ∷ xs
-modify (suc e) f (x ∷ xs) = x ∷ modify e f xs
+  pub Store : Type 0
+  -- the number of an object's element, and the store with that number changed
+  pub look : ℕ → ℕ → Store → ℕ
+  pub change : ℕ → ℕ → (ℕ → ℕ) → Store → Store
 
 module _ (p : Plan) where
-  abbrev pub place_of : Act → ℕ
-  place_of q = p.place q.object q.element
+  abbrev pub after : Act → p.Store → p.Store
+  after q s = p.change q.object q.element (effect q.deed) s
 
-  abbrev pub after : Act → List ℕ → List ℕ
-  after q s = modify (place_of q) (effect q.deed) s
-
-  abbrev pub answer : Act → List ℕ → ℕ
-  answer q s = found q.deed (number_at (place_of q) s)
+  abbrev pub answer : Act → p.Store → ℕ
+  answer q s = found q.deed (p.look q.object q.element s)
 
   abbrev pub machine : Machine
   machine = record {
-    Store = List ℕ;
+    Store = p.Store;
     Act = Act;
     Answer = ℕ;
     Call = p.Call;
@@ -57,6 +47,17 @@ module _ (p : Plan) where
     height = p.height;
   }
 
-  -- two elements stand at one place only if they are the same
-  abbrev pub IsOnePlace : Type 0
-  IsOnePlace = (o e o' e' : ℕ) → e < p.width o → e' < p.width o' → p.place o e ≡ p.place o' e' → (o ≡ o') × (e ≡ e')
+  -- two elements that are not the same one
+  abbrev pub AreTwo : ℕ → ℕ → ℕ → ℕ → Type 0
+  AreTwo o e o' e' = o ≡ o' → e ≡ e' → ⊥
+
+  -- Each element has a number of its own: a change of another leaves it, and commutes with a change of it. So do two changes of one
+  -- element that commute on its number, and to change no number changes nothing.
+  pub record IsStore : Type 0 where
+    pub look_other : (o e o' e' : ℕ) (f : ℕ → ℕ) (s : p.Store) → e < p.width o → e' < p.width o' → AreTwo o e o' e'
+        → p.look o e (p.change o' e' f s) ≡ p.look o e s
+    pub other : (o e o' e' : ℕ) (f g : ℕ → ℕ) (s : p.Store) → e < p.width o → e' < p.width o' → AreTwo o e o' e'
+        → p.change o e f (p.change o' e' g s) ≡ p.change o' e' g (p.change o e f s)
+    pub same : (o e : ℕ) (f g : ℕ → ℕ) (s : p.Store) → ((a : ℕ) → f (g a) ≡ g (f a))
+        → p.change o e f (p.change o e g s) ≡ p.change o e g (p.change o e f s)
+    pub still : (o e : ℕ) (s : p.Store) → p.change o e (λ a. a) s ≡ s

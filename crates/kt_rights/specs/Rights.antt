@@ -1,5 +1,6 @@
 -- What the accesses of a call let be done, by the tables of modes.
 use Rattle.std.specs.Prelude.{◌≡◌, ◌≢◌, ℕ, suc, ◌<◌, ◌≤◌, Bool, true, false, List, [], ◌∷◌, Option, Some, None, ◌⊎◌}
+use Rattle.kt_law.specs.Acts.{Act, Deed, Load, Store, Fold}
 use Rattle.kt_law.specs.Modes.{same_op, is_postponed, is_owned, may_load, may_store, may_fold, hands_on_of}
 use Rattle.kt_law.specs.Accesses.{HasObject, clashes, clash_between}
 use Rattle.kt_law.specs.declared.operators.Op.{Op}
@@ -9,8 +10,8 @@ use Rattle.kt_law.specs.declared.accesses.Access.{Access}
 use Rattle.kt_order.specs.Body.{Keeps, Stop, Do, Fork}
 use Rattle.kt_order.specs.Machine.{Code}
 use Rattle.kt_order.specs.Laws.{Acts, Rights as OrderRights}
-use Rattle.kt_rights.specs.Acts.{Act, Deed, Load, Store, Fold, is_load}
-use Rattle.kt_rights.specs.Plan.{Plan, machine, IsOnePlace}
+use Rattle.kt_rights.specs.Acts.{is_load}
+use Rattle.kt_rights.specs.Plan.{Plan, machine, IsStore}
 
 abbrev pub SomeOf : (Access → Type 0) → List Access → Type 0
 SomeOf P [] = ⊥
@@ -62,12 +63,20 @@ pub record Covers (b a : Access) : Type 0 where
   pub below : b.hi ≤ a.hi
   pub hands_on : hands_on_of a.mode b.mode ≡ true
 
+-- each of the accesses is handed on by one of these rights
+abbrev pub AreCovered : List Access → List Access → Type 0
+AreCovered rights accesses = EachOf (λ b. SomeOf (Covers b) rights) accesses
+
+-- an act that one of the rights permits, on an element that is there
+abbrev pub Allowed : (ℕ → ℕ) → List Access → Option ℕ → Act → Type 0
+Allowed widths rights own act = (act.element < widths act.object) × SomeOf (Permits own act) rights
+
 module _ (p : Plan) where
   abbrev pub There : Act → Type 0
   There q = q.element < p.width q.object
 
   abbrev pub Directly : p.Call → Act → Type 0
-  Directly c q = There q × SomeOf (Permits (p.own c) q) (p.accesses c)
+  Directly c q = Allowed p.width (p.accesses c) (p.own c) q
 
   abbrev pub MayDo : p.Call → Act → Type 0
   MayDo c q = There q × SomeOf (Touches (p.own c) q) (p.accesses c)
@@ -76,7 +85,7 @@ module _ (p : Plan) where
   pub record HandsOn (c d : p.Call) : Type 0 where
     pub whole : p.own c ≡ None
     pub child : p.own d ≡ None
-    pub covered : EachOf (λ b. SomeOf (Covers b) (p.accesses c)) (p.accesses d)
+    pub covered : AreCovered (p.accesses c) (p.accesses d)
 
   -- a loop hands an index on
   pub record HasIndex (c d : p.Call) : Type 0 where
@@ -114,9 +123,9 @@ module _ (p : Plan) where
   EndsWithIndexes (Do q k) = (a : ℕ) → EndsWithIndexes (k a)
   EndsWithIndexes (Fork d w) = ((p.own d ≡ None) ⊎ Acts (machine p) (λ q. ⊥) w) × EndsWithIndexes w
 
-  -- what a program has to show: the accesses of a call do not clash, and its body keeps to them
+  -- what a program has to show: the accesses of a call do not clash, its body keeps to them, and its store is one
   pub record Obeys : Type 0 where
     pub unalike : (c : p.Call) → p.Fits c → clashes (p.accesses c) ≡ false
     pub keeps : (c : p.Call) → p.Fits c → Keeps (Directly c) (Handed c) (p.tree c)
     pub indexes : (c : p.Call) → p.Fits c → EndsWithIndexes (p.tree c)
-    pub one_place : IsOnePlace p
+    pub store : IsStore p

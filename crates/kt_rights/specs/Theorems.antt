@@ -22,7 +22,7 @@ module _ (p : Plan) where
 
   -- every order of enabled events gives the sequential run
   abbrev pub AccessesFreeTheOrder : Type 0
-  AccessesFreeTheOrder = Obeys p → (root : p.Call) (s : List ℕ) (es : List Event) → p.Fits root
+  AccessesFreeTheOrder = Obeys p → (root : p.Call) (s : p.Store) (es : List Event) → p.Fits root
       → Follows (machine p) (rights p) es (opening (machine p) root s)
       → let x = run (machine p) es (opening (machine p) root s) in
       AllFinished (machine p) x.forest → whole (machine p) root s ≡ record { store = x.store; entries = settled (machine p) x.forest }
@@ -38,7 +38,7 @@ module _ (p : Plan) where
 
   -- two tasks under way, neither of them above the other
   abbrev pub SideBySideAgree : Type 0
-  SideBySideAgree = Obeys p → (root : p.Call) (s : List ℕ) (x : State (machine p)) → Lawful (machine p) (rights p) root s x
+  SideBySideAgree = Obeys p → (root : p.Call) (s : p.Store) (x : State (machine p)) → Lawful (machine p) (rights p) root s x
       → (a b : Place) (u v : Task (machine p)) → Separate a b → Stands (machine p) u a x.forest → Stands (machine p) v b x.forest
       → IsUnderWay (machine p) u → IsUnderWay (machine p) v → ModesAgree u.call v.call
 
@@ -55,7 +55,7 @@ module _ (p : Plan) where
 
   -- two tasks in one line, the upper one no loop
   abbrev pub InLineAgree : Type 0
-  InLineAgree = Obeys p → (root : p.Call) (s : List ℕ) (x : State (machine p)) → Lawful (machine p) (rights p) root s x
+  InLineAgree = Obeys p → (root : p.Call) (s : p.Store) (x : State (machine p)) → Lawful (machine p) (rights p) root s x
       → (a b : Place) (u v : Task (machine p)) → IsAbove a b → Stands (machine p) u a x.forest → Stands (machine p) v b x.forest
       → ForksCalls u.call → DirectModesAgree u.call v.call
 

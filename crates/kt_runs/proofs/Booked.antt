@@ -13,8 +13,8 @@ use Rattle.kt_order.specs.Loops.{child, event_place, begin_events, take_events, 
 use Rattle.kt_order.proofs.Ats.{at_more, at_says}
 use Rattle.kt_order.proofs.LoopBooks.{loop_splits, loop_retires}
 use Rattle.kt_order.proofs.LoopStays.{loop_stays}
+use Rattle.kt_prog.specs.Calls.{index_of}
 use Rattle.kt_prog.specs.Laws.{BodiesKeep, LoopsAreDirect}
-use Rattle.kt_prog.specs.Entries.{index_of}
 use Rattle.kt_prog.specs.Accepted.{IsAccepted}
 use Rattle.kt_prog.specs.Reference.{Placed, machine_of}
 use Rattle.kt_prog.specs.declared.programs.Program.{Program}

@@ -1,5 +1,6 @@
 -- Nothing follows the indexes of a loop.
 use Rattle.std.proofs.Common.{◌≡◌, ◌≢◌, ◌<◌, ℕ, zero, suc, ◌-◌, Bool, true, false, List, [], ◌∷◌, Option, Some, None, ◌⊎◌, inl, inr, refl, sym, ap, subst, ◌∙◌, arith, nat_lt, if◌then◌else◌}
+use Rattle.kt_law.specs.Acts.{Act}
 use Rattle.kt_law.specs.declared.limits.TheConstants.{DEFINITIONS}
 use Rattle.kt_order.specs.Body.{Keeps, Stop, Do, Fork}
 use Rattle.kt_order.specs.Laws.{Acts}
@@ -12,14 +13,12 @@ use Rattle.kt_prog.specs.Targets.{Target, target, is_loop_of, mul, minplus, sten
 use Rattle.kt_prog.specs.Fits.{task_target, kernel_at, target_at, Fits, is_main, is_call, FitsJob}
 use Rattle.kt_prog.specs.Rights as K
 use Rattle.kt_prog.specs.Rights.{Forks}
-use Rattle.kt_prog.specs.Reference.{placed}
+use Rattle.kt_prog.specs.Reference.{placed, machine_of}
 use Rattle.kt_prog.specs.declared.programs.Program.{Program}
 use Rattle.kt_prog.specs.declared.programs.Task.{Task}
 use Rattle.kt_prog.specs.declared.programs.Index as I
-use Rattle.kt_rights.specs.Acts as A
-use Rattle.kt_rights.specs.Plan.{machine}
 use Rattle.kt_rights.specs.Rights.{EndsWithIndexes}
-use Rattle.kt_runs.specs.Plans.{body_of, plan_of}
+use Rattle.kt_runs.specs.Plans.{plan_of}
 use Rattle.kt_runs.proofs.Zeroes.{behind_zeroing}
 use Rattle.kt_prog.specs.Objects.{width_of}
 
@@ -28,7 +27,7 @@ false_true h = cc
 
 module _ (p : Program) where
   abbrev EndsAt : List ℕ → ℕ → Script → Type 0
-  EndsAt path k w = EndsWithIndexes (plan_of p) (body_of (placed path k w))
+  EndsAt path k w = EndsWithIndexes (plan_of p) (placed path k w)
 
   -- of a call that forks no indexes
   plain_ends : (c : CallTree) → c.length ≡ 0 → (path : List ℕ) (k : ℕ) (w : Script) → Keeps (K.Directly p (Whole c)) (Forks p (Whole c)) w
@@ -47,7 +46,7 @@ module _ (p : Program) where
 
   -- a loop: its zeroing, and then its indexes
   module _ (c : CallTree) (path : List ℕ) where
-    no_acts : (P : A.Act → Type 0) (k i n : ℕ) → Acts (machine (plan_of p)) P (body_of (placed path k (indexes c i n (λ _. Stop None))))
+    no_acts : (P : Act → Type 0) (k i n : ℕ) → Acts (machine_of p) P (placed path k (indexes c i n (λ _. Stop None)))
     unfolding ◌>>=◌ fork give
     no_acts P k i zero = tt
     no_acts P k i (suc n) = no_acts P (suc k) (suc i) n

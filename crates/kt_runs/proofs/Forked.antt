@@ -7,11 +7,10 @@ use Rattle.kt_order.specs.Machine.{Code}
 use Rattle.kt_order.specs.Trace.{hearing}
 use Rattle.kt_order.specs.Stand.{Standing, stand}
 use Rattle.kt_order.proofs.Stands.{stand_none, fork_some}
-use Rattle.kt_prog.specs.Calls.{CallTree, Whole, Index}
+use Rattle.kt_prog.specs.Calls.{CallTree, Whole, Index, index_of}
 use Rattle.kt_prog.specs.Script.{Script}
 use Rattle.kt_prog.specs.Bodies.{task_at, index_in}
 use Rattle.kt_prog.specs.Operations.{is_loop_at}
-use Rattle.kt_prog.specs.Entries.{index_of}
 use Rattle.kt_prog.specs.Targets.{Target, is_loop_of}
 use Rattle.kt_prog.specs.Fits.{Fits, is_main, is_call, task_target, kernel_at, target_at}
 use Rattle.kt_prog.specs.Rights as K

@@ -14,12 +14,11 @@ use Rattle.kt_order.specs.Loops.{forks_then, HasBook}
 use Rattle.kt_order.proofs.Ats.{frame_all}
 use Rattle.kt_order.proofs.Stands.{stand_none, some_is, fork_some}
 use Rattle.kt_order.proofs.LoopBooks.{loop_goes, loop_finishes}
-use Rattle.kt_prog.specs.Calls.{CallTree, Job, Whole, Index}
+use Rattle.kt_prog.specs.Calls.{CallTree, Job, Whole, Index, index_of}
 use Rattle.kt_prog.specs.Laws.{BodiesKeep}
 use Rattle.kt_prog.specs.Script.{Step, ◌>>=◌, give, fork}
 use Rattle.kt_prog.specs.Bodies.{script_with, script_of, indexes, call_body}
 use Rattle.kt_prog.specs.Operations.{is_loop_at}
-use Rattle.kt_prog.specs.Entries.{index_of}
 use Rattle.kt_prog.specs.Accepted.{IsAccepted}
 use Rattle.kt_prog.specs.Fits.{FitsJob}
 use Rattle.kt_prog.specs.Reference.{Placed, placed, machine_of}

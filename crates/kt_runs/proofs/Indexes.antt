@@ -1,6 +1,5 @@
 -- The indexes of a loop are apart, fork nothing, and are all that the loop forks.
 use Rattle.std.proofs.Common.{◌≡◌, ◌≢◌, ◌<◌, ◌≤◌, ℕ, zero, suc, ◌+◌, ◌-◌, Bool, true, false, List, [], ◌∷◌, length, Option, Some, None, inr, refl, sym, ap, subst, ◌∙◌, arith, nat_lt, is_some, if◌then◌else◌}
-use Rattle.kt_law.specs.Modes.{is_postponed}
 use Rattle.kt_law.specs.declared.limits.TheConstants.{DEFINITIONS}
 use Rattle.kt_order.specs.Lists.{AllOf}
 use Rattle.kt_order.specs.Body.{Keeps, Stop, Do, Fork}
@@ -26,7 +25,7 @@ use Rattle.kt_runs.specs.Plans.{plan_of}
 use Rattle.kt_runs.specs.Rights.{rights_in}
 use Rattle.kt_runs.specs.Loops.{index_calls}
 use Rattle.kt_runs.proofs.Zeroes.{behind_zeroing}
-use Rattle.kt_runs.proofs.Keeping.{each_of, numbered_rights, unalike}
+use Rattle.kt_runs.proofs.Keeping.{numbered_rights, unalike}
 use Rattle.kt_prog.specs.Objects.{width_of}
 
 pub calls_length : (path : List ℕ) (call : CallTree) (i n : ℕ) → length (index_calls path call i n) ≡ n
@@ -135,8 +134,7 @@ module _ (p : Program) where
       is_second = refl;
       differ = differ;
       same = refl;
-      direct = subst (EachOf (λ a. is_postponed a.mode ≡ false)) (sym (index_rights c i fits lt))
-          (each_of IsDirect (λ a. is_postponed a.mode ≡ false) (λ a h. h) c.accesses (direct p ok c i (fits, lt)));
+      direct = subst (EachOf IsDirect) (sym (index_rights c i fits lt)) (direct p ok c i (fits, lt));
       unalike = unalike p (Whole c) fits;
     })
 

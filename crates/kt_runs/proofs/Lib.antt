@@ -1,5 +1,4 @@
-pub mod Places
-pub mod Bridge
+pub mod Stores
 pub mod Zeroes
 pub mod Keeping
 pub mod Ends
@@ -8,7 +7,6 @@ pub mod Runs
 pub mod Indexes
 pub mod Begins
 pub mod Counts
-pub mod Lines
 pub mod Clashes
 pub mod Next
 pub mod Numbers

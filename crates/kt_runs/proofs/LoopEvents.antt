@@ -6,8 +6,7 @@ use Rattle.kt_order.specs.Machine.{Machine, Code}
 use Rattle.kt_order.specs.Forest.{Place}
 use Rattle.kt_order.specs.Events.{Event}
 use Rattle.kt_order.specs.Loops.{child, event_place, begin_events, take_events, index_events}
-use Rattle.kt_prog.specs.Calls.{Job, Whole, Index}
-use Rattle.kt_prog.specs.Entries.{index_of}
+use Rattle.kt_prog.specs.Calls.{Job, Whole, Index, index_of}
 use Rattle.kt_prog.specs.Reference.{machine_of}
 use Rattle.kt_prog.specs.declared.programs.Program.{Program}
 use Rattle.kt_runs.specs.States.{Core}

@@ -9,9 +9,8 @@ use Rattle.kt_order.specs.Events as order
 use Rattle.kt_order.specs.Events.{left_at}
 use Rattle.kt_order.specs.Books.{Book, Piece, whole_book, is_inside, cut, CanTake, take}
 use Rattle.kt_order.specs.Loops.{child, begin_events, take_events, index_events, phases}
-use Rattle.kt_prog.specs.Calls.{CallTree, Job, Whole, Index}
+use Rattle.kt_prog.specs.Calls.{CallTree, Job, Whole, Index, index_of}
 use Rattle.kt_prog.specs.Operations.{is_loop_at}
-use Rattle.kt_prog.specs.Entries.{index_of}
 use Rattle.kt_prog.specs.Accepted.{IsAccepted}
 use Rattle.kt_prog.specs.Reference.{machine_of}
 use Rattle.kt_prog.specs.declared.programs.Program.{Program}

@@ -6,10 +6,9 @@ use Rattle.kt_order.specs.Body.{Stop, Do, Fork}
 use Rattle.kt_order.specs.Laws.{Within}
 use Rattle.kt_order.specs.Stand.{Standing, stand}
 use Rattle.kt_order.proofs.Stands.{stand_none, fork_some, some_is}
-use Rattle.kt_prog.specs.Calls.{CallTree, Job, Whole, Index}
+use Rattle.kt_prog.specs.Calls.{CallTree, Job, Whole, Index, index_of}
 use Rattle.kt_prog.specs.Script.{Script}
 use Rattle.kt_prog.specs.Bodies.{script_of, task_at, index_in}
-use Rattle.kt_prog.specs.Entries.{index_of}
 use Rattle.kt_prog.specs.Targets.{Target, is_loop_of}
 use Rattle.kt_prog.specs.Fits.{Fits, is_main, is_call, FitsJob, kernel_at, task_target, target_at}
 use Rattle.kt_prog.specs.Store.{answer}
