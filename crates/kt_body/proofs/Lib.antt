@@ -11,5 +11,3 @@ pub mod Passing
 pub mod Objects
 pub mod Rooms
 pub mod Starting
-pub mod Rightful
-pub mod Elements

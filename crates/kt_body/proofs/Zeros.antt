@@ -9,14 +9,14 @@ use Rattle.kt_order.specs.Body.{Stop}
 use Rattle.kt_prog.specs.Bodies.{script_of, script_with, call_body}
 use Rattle.kt_prog.specs.Calls.{CallTree, Job, Whole}
 use Rattle.kt_prog.specs.Objects.{width_of}
-use Rattle.kt_prog.specs.Operations.{trace}
+use Rattle.kt_prog.specs.Operations.{trace, zeroing}
 use Rattle.kt_prog.specs.Script.{Script, ◌>>=◌, ◌>>◌, give, perform}
 use Rattle.kt_prog.specs.Zeroing.{zero_elements, zero_objects, zero_access, zero_all}
 use Rattle.kt_prog.specs.declared.programs.Family.{Family}
 use Rattle.kt_prog.specs.declared.programs.Program.{Program}
 use Rattle.kt_prog.specs.declared.runs.Operation.{Operation}
 use Rattle.kt_prog.specs.declared.runs.Operation.TheVariants as O
-use Rattle.kt_body.specs.Endings.{Begins, ZeroesSo, zeroing, answers_of}
+use Rattle.kt_body.specs.Endings.{Begins, ZeroesSo, answers_of}
 use Rattle.kt_body.specs.Moves.{Can, Ran, gave, halted_in}
 use Rattle.kt_body.proofs.Ends.{can_begin, came, stuck}
 use Rattle.kt_body.specs.declared.ops.Early.TheVariants as early

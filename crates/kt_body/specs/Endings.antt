@@ -1,17 +1,14 @@
 -- How the run of a body ends.
-use Rattle.std.specs.Prelude.{◌≡◌, ℕ, List, [], ◌∷◌, ◌++◌, None, length, flat_map}
-use Rattle.kt_order.specs.Body.{Stop}
+use Rattle.std.specs.Prelude.{◌≡◌, ℕ, List, [], ◌∷◌, ◌++◌, length, flat_map}
 use Rattle.kt_prog.specs.Accepted.{IsAccepted}
 use Rattle.kt_prog.specs.Calls.{CallTree, Job, Whole}
 use Rattle.kt_prog.specs.Fits.{FitsJob}
-use Rattle.kt_prog.specs.Operations.{heard, trace, operations}
-use Rattle.kt_prog.specs.Zeroing.{zero_all}
+use Rattle.kt_prog.specs.Operations.{heard, operations, zeroing}
 use Rattle.kt_prog.specs.declared.programs.Program.{Program}
 use Rattle.kt_prog.specs.declared.runs.Operation.{Operation}
 use Rattle.kt_prog.specs.declared.runs.Operation.TheVariants as O
 use Rattle.kt_body.specs.declared.ops.Ended.{Ended}
 use Rattle.kt_body.specs.declared.ops.Ended.TheVariants as E
-use Rattle.kt_prog.specs.Objects.{width_of}
 
 -- what the loads among the operations found
 abbrev pub answers_of : List Operation → List ℕ
@@ -22,10 +19,6 @@ abbrev pub IsCalled : Operation → Type 0
 IsCalled O.End = ⊥
 IsCalled (O.Fault law line) = ⊥
 IsCalled _ = Unit {0}
-
--- the stores of 0 before a body
-abbrev pub zeroing : Program → CallTree → List Operation
-zeroing p call = trace [] (zero_all (width_of p.families) call.accesses (λ _. Stop None)) []
 
 module _ {S : Type 0} (at : S → Program → Job → List ℕ → ℕ → Type 0) (goes : S → Operation → S → Type 0) (halted : S → Type 0) where
   -- the operations, in order, took the object from x to y

@@ -4,4 +4,3 @@ pub mod Moves
 pub mod Scenes
 pub mod Forking
 pub mod Starts
-pub mod Laws

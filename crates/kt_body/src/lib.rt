@@ -5,7 +5,6 @@ mod body;
 mod eval;
 mod exec;
 mod forks;
-pub mod laws;
 mod lookups;
 mod ops;
 mod passed;

@@ -13,7 +13,7 @@ use Rattle.kt_prog.specs.declared.programs.Program.{Program}
 use Rattle.kt_prog.specs.declared.runs.Operation.{Operation}
 use Rattle.kt_prog.specs.declared.runs.Operation.TheVariants as O
 use Rattle.kt_store.specs.Stores.{StoreState}
-use Rattle.kt_body.specs.Laws.{NextIsRightful, NextIsOnElement, IsOnElement}
+use Rattle.kt_prog.specs.Next.{NextIsRightful, NextIsOnElement, IsOnElement}
 use Rattle.kt_runs.specs.States.{most_tasks}
 use Rattle.kt_tables.specs.Tables.{TaskRow, CoreState, fresh_row, is_child, is_finished, next_child, count_rows}
 use Rattle.kt_tables.specs.TableEvents.{IsDue, added_by, in_phase, is_running, row_after, state_after, wants, went_on}

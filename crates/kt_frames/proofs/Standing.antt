@@ -6,8 +6,8 @@ use Rattle.kt_prog.specs.Fits.{FitsJob}
 use Rattle.kt_prog.specs.Operations.{IsNext}
 use Rattle.kt_prog.specs.declared.programs.Program.{Program}
 use Rattle.kt_prog.specs.declared.runs.Operation.{Operation}
-use Rattle.kt_body.specs.Laws.{IsOnElement}
-use Rattle.kt_body.proofs.Elements.{next_is_on_element}
+use Rattle.kt_prog.specs.Next.{IsOnElement}
+use Rattle.kt_prog.proofs.OnElements.{next_is_on_element}
 use Rattle.kt_frames.specs.Owned.{Stands}
 use Rattle.kt_frames.specs.declared.owner.Owner.{Owner}
 

@@ -29,3 +29,5 @@ pub mod Entries
 pub mod Outcome
 pub mod LastWriter
 pub mod Laws
+pub mod Next
+pub mod Zeroes

@@ -3,8 +3,10 @@ use Rattle.std.specs.Prelude.{◌≡◌, ℕ, zero, suc, List, [], ◌∷◌, �
 use Rattle.kt_law.specs.Acts.{Deed, Load, Store, Fold}
 use Rattle.kt_law.specs.declared.limits.TheConstants.{DEFINITIONS}
 use Rattle.kt_order.specs.Body.{Stop, Do, Fork}
-use Rattle.kt_prog.specs.Calls.{Job, Whole, Index}
+use Rattle.kt_prog.specs.Calls.{CallTree, Job, Whole, Index}
+use Rattle.kt_prog.specs.Objects.{width_of}
 use Rattle.kt_prog.specs.Script.{Script}
+use Rattle.kt_prog.specs.Zeroing.{zero_all}
 use Rattle.kt_prog.specs.Bodies.{task_at, index_in, script_of}
 use Rattle.kt_prog.specs.declared.programs.Program.{Program}
 use Rattle.kt_prog.specs.declared.runs.Operation.{Operation}
@@ -28,6 +30,10 @@ trace end (Stop None) answers = end
 trace end (Stop (Some f)) answers = O.Fault f.law f.line ∷ []
 trace end (Do act next) answers = acted act.object act.element act.deed (λ a more. trace end (next a) more) answers
 trace end (Fork job next) answers = forked job (trace end next answers)
+
+-- the stores of 0 before a body
+abbrev pub zeroing : Program → CallTree → List Operation
+zeroing p call = trace [] (zero_all (width_of p.families) call.accesses (λ _. Stop None)) []
 
 -- the number in a call is that of a loop
 abbrev pub is_loop_at : Program → ℕ → Bool

@@ -18,7 +18,7 @@ use Rattle.kt_prog.specs.declared.runs.Operation.{Operation}
 use Rattle.kt_prog.specs.declared.runs.Operation.TheVariants as O
 use Rattle.kt_body.specs.Doing.{CanDo, Did}
 use Rattle.kt_body.specs.Endings.{IsCalled}
-use Rattle.kt_body.proofs.Rightful.{next_is_rightful}
+use Rattle.kt_prog.proofs.Rightful.{next_is_rightful}
 use Rattle.kt_frames.specs.OnlyTasks.{HasOnlyTasks}
 use Rattle.kt_frames.proofs.Forking.{Free}
 use Rattle.kt_frames.proofs.TaskBodies.{NoKernel, forks_no_kernel}

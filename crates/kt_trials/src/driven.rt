@@ -7,10 +7,10 @@ ghost use Rattle.kt_trials.specs.Driven.{CanGo, IsPlain, StandsAt};
 ghost use Rattle.kt_tables.specs.TableEvents.{task_of};
 ghost use Rattle.kt_tables.specs.Tables.{opening_state};
 
-use kt_body::laws::next_is_on_element;
 use kt_body::{Ended, Got, Ops, Went, run_body};
 use kt_core::{Core, Event, Why};
 use kt_law::Op;
+use kt_prog::laws::next_is_on_element;
 use kt_prog::{Call, Operation, Program};
 use std::process::Abort;
 

@@ -1,7 +1,7 @@
 // The events of a core, one kind a function.
 ghost use Rattle.std.specs.Prelude.{◌≡◌, ◌<◌, IfErr, IfOk, None, Some, length, slice_get};
 ghost use Rattle.kt_tables.specs.Tables.{TaskRow};
-ghost use Rattle.kt_body.specs.Laws.{IsOnElement};
+ghost use Rattle.kt_prog.specs.Next.{IsOnElement};
 ghost use Rattle.kt_core.specs.Steps.{EventsKeepStatesLawful, Goes, IsNoFork, Steps, acted};
 ghost use Rattle.kt_tables.specs.TableEvents.{CanAsk, Replies, is_looping, refusal, state_after, wants};
 ghost use Rattle.kt_tables.specs.declared.events.Event.TheVariants as event_is;
@@ -10,7 +10,7 @@ ghost use Rattle.kt_prog.specs.declared.runs.Operation.TheVariants as operation_
 use crate::links::add_child;
 use crate::rows::Row;
 use crate::running::Core;
-use kt_body::laws::{next_is_on_element, next_is_rightful};
+use kt_prog::laws::{next_is_on_element, next_is_rightful};
 use kt_prog::{Call, Operation};
 use kt_store::PlainStore;
 use kt_tables::laws::events_keep_tables_lawful;

@@ -12,7 +12,7 @@ use Rattle.kt_prog.specs.declared.programs.Program.{Program}
 use Rattle.kt_prog.specs.declared.runs.Operation.{Operation}
 use Rattle.kt_prog.specs.declared.runs.Operation.TheVariants as O
 use Rattle.kt_prog.proofs.Plain.{plain}
-use Rattle.kt_body.specs.Laws.{IsRightful, NextIsRightful}
+use Rattle.kt_prog.specs.Next.{IsRightful, NextIsRightful}
 
 module _ (p : Program) (job : Job) where
   abbrev AllRightful : List Operation → Type 0

@@ -9,8 +9,8 @@ use Rattle.kt_prog.specs.declared.programs.Program.{Program}
 use Rattle.kt_prog.specs.declared.programs.Family.{Family}
 use Rattle.kt_prog.specs.declared.runs.Operation.{Operation}
 use Rattle.kt_prog.specs.declared.runs.Operation.TheVariants as O
-use Rattle.kt_body.specs.Laws.{IsElement, IsOnElement, IsRightful, NextIsOnElement}
-use Rattle.kt_body.proofs.Rightful.{next_is_rightful}
+use Rattle.kt_prog.specs.Next.{IsElement, IsOnElement, IsRightful, NextIsOnElement}
+use Rattle.kt_prog.proofs.Rightful.{next_is_rightful}
 
 -- an object that has an element is there
 object_below : (families : List Family) (object element : ℕ) → element < width_of families object → object < objects_of families

@@ -1,5 +1,0 @@
-use Rattle.kt_body.proofs.Rightful.{next_is_rightful}
-use Rattle.kt_body.proofs.laws.next_is_rightful.Goals as goal
-
-pub returns : goal.returns
-returns c = next_is_rightful
