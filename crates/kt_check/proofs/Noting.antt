@@ -1,12 +1,13 @@
 -- Lists of rules noted item after item.
-use Rattle.std.proofs.Common.{◌≡◌, ℕ, suc, ◌+◌, ◌<◌, ◌≤◌, List, [], ◌∷◌, ◌++◌, Bool, true, false, ◌&&◌, ◌||◌, length, map, drop, get_or, Option, Some, refl, ap, sym, ◌∙◌, arith, drop-cons, add-one}
+use Rattle.std.proofs.Common.{◌≡◌, ℕ, suc, ◌+◌, ◌<◌, ◌≤◌, List, [], ◌∷◌, ◌++◌, Bool, true, false, ◌&&◌, ◌||◌, length, map, drop, get_or, Option, Some, None, refl, ap, sym, ◌∙◌, arith, drop-cons, add-one}
 use Rattle.std.proofs.lemmas.Grind.{common_steps}
 use Rattle.kt_law.specs.declared.places.Place.{Place}
 use Rattle.kt_law.specs.declared.places.P.TheVariants.{P5, P6}
 use Rattle.kt_law.specs.declared.places.Refusal.{Refusal}
 use Rattle.std.specs.Prelude.{is_some}
 use Rattle.std.specs.Str.{bytes_eq}
-use Rattle.kt_prog.specs.Targets.{kernel_named}
+use Rattle.kt_prog.specs.Targets.{Target, kernel, kernel_named, kernel_target, target_of}
+use Rattle.kt_prog.specs.Locals.{or_else}
 use Rattle.kt_prog.specs.Scope.{Scope, known_index}
 use Rattle.kt_prog.specs.Rules.{Breaches, broken_at, denied}
 use Rattle.kt_prog.specs.Targets.{is_loop_of, target, task_named}
@@ -15,6 +16,8 @@ use Rattle.kt_prog.specs.Declarations.{declared_in, Declared, is_earlier, names_
 use Rattle.kt_prog.specs.Accepted.{body_rules, main_scope, mains_rules, task_rules, task_scope}
 use Rattle.kt_prog.specs.Refusals.{noted}
 use Rattle.kt_check.specs.Sights.{declared_family, declared_task, sort_of}
+use Rattle.kt_prog.specs.declared.kernel.Kernel.{Kernel}
+use Rattle.kt_prog.specs.declared.kernel.Kernel.TheVariants as K
 use Rattle.kt_prog.specs.declared.programs.Arg.{Arg}
 use Rattle.kt_prog.specs.declared.programs.Expr.{Expr}
 use Rattle.kt_prog.specs.declared.programs.Family.{Family}
@@ -133,3 +136,19 @@ main_step p xs i m seen b new h is scope note =
     mains_next p xs i m h is b
     ∙ ap (λ s. noted (noted b (body_rules s m.body)) (mains_rules p (drop (i + 1) xs))) (sym scope)
     ∙ ap (λ f. noted f (mains_rules p (drop (i + 1) xs))) (sym note)
+
+-- a kernel's rules are those of its parameters
+kernel_rule : (k : Kernel) (place : Place) (s : Scope) (len : Option Expr) (args : List Arg)
+    → fork_rule (Some (kernel_target k)) place s len args ≡ fork_rule (Some (kernel 0 (kernel_target k).sorts)) place s len args
+kernel_rule K.Mul place s len args = refl
+kernel_rule K.Minplus place s len args = refl
+kernel_rule K.Stencil place s len args = refl
+kernel_rule K.Scan place s len args = refl
+
+module _ (tasks : List Task) (name : List ℕ) (place : Place) (s : Scope) (len : Option Expr) (args : List Arg) where
+  pub kernel_forked : (k : Kernel) → Some (kernel_target k) ≡ kernel_named name
+      → fork_rule (target_of tasks name) place s len args ≡ fork_rule (Some (kernel 0 (kernel_target k).sorts)) place s len args
+  kernel_forked k e = rw (← e) (kernel_rule k place s len args)
+
+  pub task_forked : None ≡ kernel_named name → fork_rule (target_of tasks name) place s len args ≡ fork_rule (task_named 1 tasks name) place s len args
+  task_forked e = rw (← e) refl

@@ -10,13 +10,15 @@ use crate::directories::Directory;
 use crate::late::is_late;
 use crate::least::{note, note_if};
 use kt_law::{DEFINITIONS, ELEMENTS, OBJECTS, P, Place, Refusal, WIDTH};
-use kt_prog::{Family, Main, Name, Task};
+use kt_prog::{Family, Kernel, Main, Name, Task};
 
 fn is_kernel(name: &Name) -> bool
     ensures { result ≡ is_some (kernel_named name.now) }
 {
-    let name = name.as_str();
-    "k_mul" == name || "k_minplus" == name || "k_stencil" == name || "k_scan" == name
+    match Kernel::named(name) {
+        Some(_) => true,
+        None => false,
+    }
 }
 
 #[tactic(auto, using(crate::proofs::Passing::name_late))]

@@ -10,36 +10,8 @@ use crate::exprs::check_expr;
 use crate::late::is_fork_late;
 use crate::least::{note, note_if};
 use crate::names::Sight;
-use kt_law::{Mode, Op, P, Place, Refusal};
-use kt_prog::{Arg, ArgWhat, Expr, Index, Name, Param, Sort, Task};
-
-const MUL: [Sort; 6] = [
-    Sort::Int,
-    Sort::Int,
-    Sort::Int,
-    Sort::One(Mode::R),
-    Sort::One(Mode::R),
-    Sort::One(Mode::Cw(Op::Add)),
-];
-
-const MINPLUS: [Sort; 6] = [
-    Sort::Int,
-    Sort::Int,
-    Sort::Int,
-    Sort::One(Mode::R),
-    Sort::One(Mode::R),
-    Sort::One(Mode::Cw(Op::Min)),
-];
-
-const STENCIL: [Sort; 5] = [
-    Sort::Int,
-    Sort::One(Mode::R),
-    Sort::One(Mode::R),
-    Sort::One(Mode::R),
-    Sort::One(Mode::W),
-];
-
-const SCAN: [Sort; 4] = [Sort::Int, Sort::Int, Sort::One(Mode::R), Sort::One(Mode::X)];
+use kt_law::{P, Place, Refusal};
+use kt_prog::{Arg, ArgWhat, Expr, Index, Kernel, Name, Param, Sort, Task};
 
 fn check_length(sight: &Sight, len: &Option<Expr>, found: &mut Option<Refusal>)
     ensures { found.new ≡ noted found.old (length_rule (scope_of sight.now) len.now) }
@@ -180,6 +152,7 @@ fn check_named(
 }
 
 /// Notes what a fork breaks, but for its place in a loop.
+#[tactic(auto, using(crate::proofs::Noting::kernel_forked, crate::proofs::Noting::task_forked))]
 pub fn check_fork(
     sight: &Sight,
     name: &Name,
@@ -190,15 +163,8 @@ pub fn check_fork(
 )
     ensures { found.new ≡ noted found.old (fork_rule (target_of sight.now.program.now.tasks name.now) place (scope_of sight.now) len.now args.now) }
 {
-    if "k_mul" == name.as_str() {
-        check_kernel(sight, &MUL, place, len, args, found);
-    } else if "k_minplus" == name.as_str() {
-        check_kernel(sight, &MINPLUS, place, len, args, found);
-    } else if "k_stencil" == name.as_str() {
-        check_kernel(sight, &STENCIL, place, len, args, found);
-    } else if "k_scan" == name.as_str() {
-        check_kernel(sight, &SCAN, place, len, args, found);
-    } else {
-        check_named(sight, name, place, len, args, found);
+    match Kernel::named(name) {
+        Some(kernel) => check_kernel(sight, kernel.sorts(), place, len, args, found),
+        None => check_named(sight, name, place, len, args, found),
     }
 }
