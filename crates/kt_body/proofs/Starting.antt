@@ -6,8 +6,9 @@ use Rattle.kt_law.specs.declared.accesses.Access.{Access}
 use Rattle.kt_law.specs.declared.limits.TheConstants.{DEFINITIONS, OBJECTS}
 use Rattle.kt_order.specs.Body.{Stop}
 use Rattle.kt_prog.specs.Accepted.{IsAccepted}
-use Rattle.kt_prog.specs.Bodies.{call_body, index_in, job_body, main_body, script_of, script_with, task_at, task_body, task_or_loop}
-use Rattle.kt_prog.specs.Calls.{CallTree, Job, Whole}
+use Rattle.kt_prog.specs.Bodies.{call_body, index_body, index_in, job_body, main_body, script_of, script_with, site_of, statements, task_at, task_body, task_or_loop, with_index}
+use Rattle.kt_prog.specs.Calls.{CallTree, Job, Whole, Index}
+use Rattle.kt_prog.specs.Locals.{given}
 use Rattle.kt_rights.specs.Rights.{EachOf}
 use Rattle.kt_prog.specs.Fits.{AreGiven, Fits, GivenOne, Inside, is_call, is_main}
 use Rattle.kt_prog.specs.Objects.{objects_of}
@@ -23,10 +24,11 @@ use Rattle.kt_prog.specs.declared.programs.Task.{Task}
 use Rattle.kt_prog.specs.declared.runs.Operation.{Operation}
 use Rattle.kt_prog.specs.declared.runs.Operation.TheVariants as O
 use Rattle.kt_prog.specs.declared.scope.Local.{Local}
+use Rattle.kt_prog.proofs.Forms.{task_there, task_not_there}
 use Rattle.kt_prog.proofs.Plain.{few_objects}
 use Rattle.kt_body.specs.Moves.{Ran, RanTo}
 use Rattle.kt_body.specs.Scenes.{AllSmall, IsSmall}
-use Rattle.kt_body.specs.Starts.{IsTask, StartsLow}
+use Rattle.kt_body.specs.Starts.{IsTask, StartsLow, given_body}
 use Rattle.kt_body.specs.declared.ops.Early.{Early}
 use Rattle.kt_body.proofs.Astray.{astray_is}
 use Rattle.kt_body.proofs.Steps.{ran_err, ran_give, ran_then}
@@ -77,16 +79,6 @@ pub no_mains : (p : Program) (mains : List Main) → length mains ≡ 0 → main
 no_mains p [] h = astray_is tt
 no_mains p (m ∷ mains) h = absurd (omega (arith, h))
 
-task_there : (tasks : List Task) (k : ℕ) (t : Task) → k < length tasks → t ≡ get_or tasks k t → task_at tasks k ≡ Some t
-task_there [] k t h is = absurd (omega arith)
-task_there (u ∷ tasks) zero t h is = rw is refl
-task_there (u ∷ tasks) (suc k) t h is = task_there tasks k t (omega arith) is
-
-task_not_there : (tasks : List Task) (k : ℕ) → length tasks ≤ k → task_at tasks k ≡ None
-task_not_there [] k h = refl
-task_not_there (u ∷ tasks) zero h = absurd (omega arith)
-task_not_there (u ∷ tasks) (suc k) h = task_not_there tasks k (omega arith)
-
 module _ (p : Program) (call : CallTree) where
   no_index : (t : Option Task) (x : Option I.Index) → is_some x ≡ false → task_or_loop (λ w. w) p call t x ≡ task_body (λ w. w) p call t
   no_index t None h = refl
@@ -120,6 +112,29 @@ module _ (p : Program) (call : CallTree) where
 
   pub end_is : is_loop_at p call.task ≡ false → end_of p (Whole call) ≡ O.End ∷ []
   end_is h = rw h refl
+
+module _ (p : Program) (call : CallTree) (i : ℕ) where
+  pub index_script : script_of p (Index call i) ≡ index_body (λ w. w) p call i (task_at p.tasks (call.task - 1)) (λ z. Stop None)
+  unfolding script_with
+  index_script = refl
+
+  pub index_at : (k : ℕ) (t : Task) → k ≡ call.task - 1 → k < length p.tasks → t ≡ get_or p.tasks k t
+      → index_body (λ w. w) p call i (task_at p.tasks (call.task - 1)) ≡ index_body (λ w. w) p call i (Some t)
+  index_at k t e lt is = rw (← e) (ap (index_body (λ w. w) p call i) (task_there p.tasks k t lt is))
+
+  pub index_nowhere : (k : ℕ) → k ≡ call.task - 1 → length p.tasks ≤ k
+      → index_body (λ w. w) p call i (task_at p.tasks (call.task - 1)) ≡ give tt
+  index_nowhere k e le = rw (← e) (ap (index_body (λ w. w) p call i) (task_not_there p.tasks k le) ∙ astray_is tt)
+
+  index_first : (x : Option I.Index) (ls : List Local) → with_index x i ls ≡ with_index x i [] ++ ls
+  index_first None ls = refl
+  index_first (Some index) ls = refl
+
+  pub index_given : (t : Task) (first : List Local) → first ≡ with_index t.index i []
+      → index_body (λ w. w) p call i (Some t) ≡ given_body p call first t
+  index_given t first e =
+      ap (λ (ls : List Local). statements (λ w. w) (site_of p false call.depth) ls t.body)
+      (index_first t.index (given t.params call.ints call.accesses) ∙ ap (λ (ls : List Local). ls ++ given t.params call.ints call.accesses) (sym e))
 
 module _ {S : Type 0} (at : S → Program → Job → List ℕ → ℕ → Type 0) (goes : S → Operation → S → Type 0) (halted : S → Type 0) where
   pub ran_behind : (x y : S) (m : Step State) (a : State) (r : Result (Unit {0}) Early) → RanTo at goes halted x m y a r

@@ -15,10 +15,7 @@ use Rattle.kt_body.specs.declared.targets.Target.{Target}
 use Rattle.kt_body.specs.declared.targets.Target.TheVariants as V
 
 abbrev pub target_in : Target → T.Target
-target_in V.Mul = T.mul
-target_in V.Minplus = T.minplus
-target_in V.Stencil = T.stencil
-target_in V.Scan = T.scan
+target_in (V.Kernel kernel) = T.kernel_target kernel
 target_in (V.Task number task) = T.target number task.now
 
 abbrev pub sort_of : Param → Sort

@@ -2,11 +2,14 @@
 use Rattle.std.specs.Prelude.{◌≡◌, ◌≤◌, ℕ, ◌+◌, List, ◌++◌, false, drop, length}
 use Rattle.kt_law.specs.declared.limits.TheConstants.{DEFINITIONS, OBJECTS}
 use Rattle.kt_law.specs.declared.accesses.Access.{Access}
+use Rattle.kt_prog.specs.Bodies.{site_of, statements}
 use Rattle.kt_prog.specs.Calls.{CallTree}
 use Rattle.kt_prog.specs.Locals.{given}
 use Rattle.kt_prog.specs.Operations.{is_loop_at}
+use Rattle.kt_prog.specs.Script.{Step}
 use Rattle.kt_prog.specs.declared.programs.Param.{Param}
 use Rattle.kt_prog.specs.declared.programs.Program.{Program}
+use Rattle.kt_prog.specs.declared.programs.Task.{Task}
 use Rattle.kt_prog.specs.declared.scope.Local.{Local}
 use Rattle.kt_body.specs.Scenes.{AllSmall}
 use Rattle.kt_body.specs.declared.start.Start.{Start}
@@ -19,9 +22,9 @@ pub record IsTask (p : Program) (call : CallTree) : Type 0 where
 abbrev pub StartsLow : Access → Type 0
 StartsLow a = a.lo ≤ OBJECTS
 
--- each local stands for an int or an access of a call
+-- each local stands for an int or an access of a call, but for one that stands for an index
 pub record IsPart (s : Start) (ints : List ℕ) (accesses : List Access) : Type 0 where
-  pub counted : length s.locals.items ≤ s.ints + s.accesses
+  pub counted : length s.locals.items ≤ 1 + s.ints + s.accesses
   pub ints_there : s.ints ≤ length ints
   pub accesses_there : s.accesses ≤ length accesses
   pub small : AllSmall s.locals.items
@@ -29,3 +32,8 @@ pub record IsPart (s : Start) (ints : List ℕ) (accesses : List Access) : Type 
 -- all locals, where these parameters are still to be given what they take
 abbrev pub whole_start : Start → List Param → List ℕ → List Access → List Local
 whole_start s params ints accesses = s.locals.items ++ given params (drop s.ints ints) (drop s.accesses accesses)
+
+-- the statements of a task or an index, where the locals begin with these and go on with the parameters
+abbrev pub given_body : Program → CallTree → List Local → Task → Step (Unit {0})
+given_body p call first t =
+    statements (λ w. w) (site_of p false call.depth) (first ++ given t.params call.ints call.accesses) t.body

@@ -1,5 +1,5 @@
 // A body from its first operation to its end.
-ghost use Rattle.std.specs.Prelude.{◌≡◌, [], length};
+ghost use Rattle.std.specs.Prelude.{◌≡◌, ◌≤◌, [], length};
 ghost use Rattle.kt_prog.specs.Bodies.{call_body, job_body, main_body, statements, task_body};
 ghost use Rattle.kt_prog.specs.Calls.{Whole};
 ghost use Rattle.kt_prog.specs.Fits.{Fits};
@@ -7,7 +7,7 @@ ghost use Rattle.std.specs.Prelude.{Some};
 ghost use Rattle.kt_body.specs.Endings.{Begins, EndsSo};
 ghost use Rattle.kt_body.specs.Moves.{Can, Ran};
 ghost use Rattle.kt_body.specs.Scenes.{AllSmall, site_in};
-ghost use Rattle.kt_body.specs.Starts.{IsTask};
+ghost use Rattle.kt_body.specs.Starts.{IsTask, given_body};
 
 use crate::exec::exec_all;
 use crate::ops::{Early, Ended, Ops, Went};
@@ -52,10 +52,19 @@ fn run_main<O: Ops>(program: &Program, ops: &mut O) -> Result<(), Early>
     run_statements(&scene, ArrayVec::new(), mains[0].body.as_slice(), ops)
 }
 
-fn run_task<O: Ops>(program: &Program, call: &Call, task: &Task, ops: &mut O) -> Result<(), Early>
-    requires can { Can O.at O.goes O.halted program.now ops.old (task_body (λ w. w) program.now call.now (Some task.now)) }
+/// The statements of a task or an index, where the locals begin with these and go on with the parameters.
+pub fn run_given<O: Ops>(
+    program: &Program,
+    call: &Call,
+    first: ArrayVec<Local, NAMES>,
+    task: &Task,
+    ops: &mut O,
+) -> Result<(), Early>
+    requires can { Can O.at O.goes O.halted program.now ops.old (given_body program.now call.now first.items task.now) }
     requires fits { Fits program.now call.now }
-    ensures { Ran O.at O.goes O.halted ops.old (task_body (λ w. w) program.now call.now (Some task.now)) ops.new result }
+    requires few { length first.items ≤ 1 }
+    requires known { AllSmall first.items }
+    ensures { Ran O.at O.goes O.halted ops.old (given_body program.now call.now first.items task.now) ops.new result }
 {
     let scene = Scene {
         program,
@@ -63,8 +72,21 @@ fn run_task<O: Ops>(program: &Program, call: &Call, task: &Task, ops: &mut O) ->
         depth: call.depth,
     };
     let params = task.params.as_slice();
-    let locals = given_locals(params, call.ints.as_slice(), call.accesses.as_slice());
+    let locals = given_locals(
+        first,
+        params,
+        call.ints.as_slice(),
+        call.accesses.as_slice(),
+    );
     run_statements(&scene, locals, task.body.as_slice(), ops)
+}
+
+fn run_task<O: Ops>(program: &Program, call: &Call, task: &Task, ops: &mut O) -> Result<(), Early>
+    requires can { Can O.at O.goes O.halted program.now ops.old (task_body (λ w. w) program.now call.now (Some task.now)) }
+    requires fits { Fits program.now call.now }
+    ensures { Ran O.at O.goes O.halted ops.old (task_body (λ w. w) program.now call.now (Some task.now)) ops.new result }
+{
+    run_given(program, call, ArrayVec::new(), task, ops)
 }
 
 fn run_call<O: Ops>(program: &Program, call: &Call, ops: &mut O) -> Result<(), Early>

@@ -5,6 +5,7 @@ mod body;
 mod eval;
 mod exec;
 mod forks;
+mod index;
 mod lookups;
 mod ops;
 mod passed;
@@ -16,5 +17,7 @@ mod writes;
 mod zero;
 
 pub use body::run_body;
-pub use ops::{Ended, Got, Ops, Went};
-pub use zero::run_zero;
+pub use index::run_index;
+pub use ops::{Early, Ended, Got, Ops, Went};
+pub use writes::{Write, do_write};
+pub use zero::{run_zero, width_at, zero_each};

@@ -2,6 +2,7 @@
 ghost use Rattle.std.specs.Prelude.{◌≡◌, ◌≤◌, ◌<◌, ◌+◌, List, [], ◌∷◌, ◌++◌, length};
 ghost use Rattle.kt_law.specs.declared.limits.TheConstants.{ACCESSES, INTS};
 ghost use Rattle.kt_rights.specs.Rights.{EachOf};
+ghost use Rattle.kt_prog.specs.Bodies.{with_index};
 ghost use Rattle.kt_prog.specs.Locals.{given};
 ghost use Rattle.kt_prog.specs.declared.programs.Param.{Param};
 ghost use Rattle.kt_prog.specs.declared.scope.TheConstants.{NAMES};
@@ -10,7 +11,7 @@ ghost use Rattle.kt_body.specs.Scenes.{AllSmall};
 
 use arrayvec::ArrayVec;
 use kt_law::Access;
-use kt_prog::{Bound, Local, NAMES, Name, Param, Sort};
+use kt_prog::{Bound, Index, Local, NAMES, Name, Param, Sort};
 
 /// The first locals of a body, and how many ints and accesses of its call they stand for.
 #[derive(Drop)]
@@ -64,16 +65,37 @@ fn give(start: &mut Start, param: &Param, ints: &[u64], accesses: &[Access])
     }
 }
 
-/// The locals of the parameters, with the ints and the accesses of a call in order.
-pub fn given_locals(params: &[Param], ints: &[u64], accesses: &[Access]) -> ArrayVec<Local, NAMES>
+/// The local of an index, where there is one.
+pub fn index_local(index: &Option<Index>, number: u32) -> ArrayVec<Local, NAMES>
+    ensures value { result.items ≡ with_index index.now number [] }
+    ensures few { length result.items ≤ 1 }
+    ensures small { AllSmall result.items }
+{
+    let mut locals = ArrayVec::new();
+    match index {
+        None => {}
+        Some(index) => add(&mut locals, &index.name, Bound::Number(u64::from(number))),
+    }
+    locals
+}
+
+/// The locals of the parameters, with the ints and the accesses of a call in order, behind the local of an index.
+pub fn given_locals(
+    first: ArrayVec<Local, NAMES>,
+    params: &[Param],
+    ints: &[u64],
+    accesses: &[Access],
+) -> ArrayVec<Local, NAMES>
+    requires few { length first.items ≤ 1 }
+    requires known { AllSmall first.items }
     requires low { EachOf StartsLow accesses.now }
     requires few_ints { length ints.now ≤ INTS }
     requires few_accesses { length accesses.now ≤ ACCESSES }
-    ensures value { result.items ≡ given params.now ints.now accesses.now }
+    ensures value { result.items ≡ first.items ++ given params.now ints.now accesses.now }
     ensures small { AllSmall result.items }
 {
     let mut start = Start {
-        locals: ArrayVec::new(),
+        locals: first,
         ints: 0,
         accesses: 0,
     };

@@ -4,46 +4,14 @@ ghost use Rattle.kt_law.specs.declared.limits.TheConstants.{DEFINITIONS};
 ghost use Rattle.kt_prog.specs.Targets.{kernel_named, target_of, task_named};
 ghost use Rattle.kt_body.specs.Forking.{sort_of, target_in};
 
-use kt_law::{DEFINITIONS, Mode, Op};
-use kt_prog::{Name, Program, Sort, Task};
+use kt_prog::{Kernel, Name, Program, Sort, Task};
 
 /// A kernel, or a task or loop with its number.
 #[derive(Clone, Copy)]
 pub enum Target<'a> {
-    Mul,
-    Minplus,
-    Stencil,
-    Scan,
+    Kernel(Kernel),
     Task(u32, &'a Task),
 }
-
-const MUL: [Sort; 6] = [
-    Sort::Int,
-    Sort::Int,
-    Sort::Int,
-    Sort::One(Mode::R),
-    Sort::One(Mode::R),
-    Sort::One(Mode::Cw(Op::Add)),
-];
-
-const MINPLUS: [Sort; 6] = [
-    Sort::Int,
-    Sort::Int,
-    Sort::Int,
-    Sort::One(Mode::R),
-    Sort::One(Mode::R),
-    Sort::One(Mode::Cw(Op::Min)),
-];
-
-const STENCIL: [Sort; 5] = [
-    Sort::Int,
-    Sort::One(Mode::R),
-    Sort::One(Mode::R),
-    Sort::One(Mode::R),
-    Sort::One(Mode::W),
-];
-
-const SCAN: [Sort; 4] = [Sort::Int, Sort::Int, Sort::One(Mode::R), Sort::One(Mode::X)];
 
 fn sort_in(sorts: &[Sort], i: usize) -> Option<Sort>
     ensures { result ≡ slice_get sorts.now i }
@@ -71,10 +39,7 @@ pub fn sort_at(target: &Target, i: usize) -> Option<Sort>
     ensures { result ≡ slice_get (target_in target.now).sorts i }
 {
     match target {
-        Target::Mul => sort_in(&MUL, i),
-        Target::Minplus => sort_in(&MINPLUS, i),
-        Target::Stencil => sort_in(&STENCIL, i),
-        Target::Scan => sort_in(&SCAN, i),
+        Target::Kernel(kernel) => sort_in(kernel.sorts(), i),
         Target::Task(_, task) => param_sort(task, i),
     }
 }
@@ -84,10 +49,7 @@ pub fn number_of(target: &Target) -> u32
     ensures { result ≡ (target_in target.now).number }
 {
     match target {
-        Target::Mul => DEFINITIONS + 1,
-        Target::Minplus => DEFINITIONS + 2,
-        Target::Stencil => DEFINITIONS + 3,
-        Target::Scan => DEFINITIONS + 4,
+        Target::Kernel(kernel) => kernel.number(),
         Target::Task(number, _) => *number,
     }
 }
@@ -111,15 +73,8 @@ pub fn target_at<'a>(program: &'a Program, name: &Name) -> Option<Target<'a>>
     requires { length program.now.tasks ≤ DEFINITIONS }
     ensures { option_map target_in result ≡ target_of program.now.tasks name.now }
 {
-    if "k_mul" == name.as_str() {
-        Some(Target::Mul)
-    } else if "k_minplus" == name.as_str() {
-        Some(Target::Minplus)
-    } else if "k_stencil" == name.as_str() {
-        Some(Target::Stencil)
-    } else if "k_scan" == name.as_str() {
-        Some(Target::Scan)
-    } else {
-        task_at(program.tasks.as_slice(), name)
+    match Kernel::named(name) {
+        Some(kernel) => Some(Target::Kernel(kernel)),
+        None => task_at(program.tasks.as_slice(), name),
     }
 }

@@ -37,7 +37,8 @@ pub fn load_element<O: Ops>(
     }
 }
 
-fn do_write<O: Ops>(write: Write, object: u32, element: u32, value: u64, ops: &mut O) -> Went
+/// Stores or folds a value to an element that is there.
+pub fn do_write<O: Ops>(write: Write, object: u32, element: u32, value: u64, ops: &mut O) -> Went
     requires { CanDo O.at O.halted ops.old (λ a. operation_of write object element value) }
     ensures { Followed O.at O.goes O.halted ops.old (operation_of write object element value) ops.new result }
 {

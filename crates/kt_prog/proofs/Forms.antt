@@ -42,3 +42,18 @@ module _ (p : Program) (number : ℕ) where
 
   pub form_kernel : Kernel ≡ form_at p number → DEFINITIONS < number
   form_kernel e = let more = formed Kernel e in grind (arith, nat_tests, more)
+
+  -- a kernel is no loop
+  kernel_single : (n : ℕ) → DEFINITIONS < n → is_loop_at p n ≡ false
+  kernel_single zero h = refl
+  kernel_single (suc n) h = let past : nat_lt n DEFINITIONS ≡ false = grind (arith, nat_tests, h) in rw past refl
+
+  pub not_loop : (form : Form) → form ≡ form_at p number → (form ≡ Loop → ⊥) → is_loop_at p number ≡ false
+  not_loop Task e not = (formed Task e).1
+  not_loop Loop e not = absurd (not refl)
+  not_loop Kernel e not = kernel_single number (form_kernel e)
+
+  pub not_kernel : (form : Form) → form ≡ form_at p number → (form ≡ Kernel → ⊥) → number ≤ DEFINITIONS
+  not_kernel Task e not = (form_task e).1
+  not_kernel Loop e not = let few = (formed Loop e).0 in grind (arith, nat_tests, few)
+  not_kernel Kernel e not = absurd (not refl)

@@ -1,7 +1,7 @@
 use Rattle.std.proofs.Common.{ap, ◌∙◌}
 use Rattle.kt_prog.specs.Calls.{CallTree}
 use Rattle.kt_body.proofs.Starting.{fits_low}
-use Rattle.kt_body.proofs.body.run_task.Goals as goal
+use Rattle.kt_body.proofs.body.run_given.Goals as goal
 
 pub given_locals-locals-requires-clause-low : goal.given_locals-locals-requires-clause-low
 given_locals-locals-requires-clause-low g c =
