@@ -33,4 +33,6 @@ pub mod PathDone
 pub mod Weights
 pub mod PathWeights
 pub mod PathBegins
+pub mod PathKids
+pub mod Prefixes
 pub mod LoopStays

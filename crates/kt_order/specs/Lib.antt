@@ -11,6 +11,7 @@ pub mod Events
 pub mod Lawful
 pub mod Shown
 pub mod Weights
+pub mod Prefixes
 pub mod Places
 pub mod Books
 pub mod Loops
