@@ -18,10 +18,10 @@ use Rattle.kt_rights.proofs.Members.{IsIn, direct_agrees, covered_object, turned
 
 module _ (symmetric : AgreementIsSymmetric) (less : HandsOnLess) (p : Plan) (obeys : Obeys p) where
   -- a direct access of c agrees with each access of e on each object
-  abbrev Line : p.Call → p.Call → Type 0
+  abbrev pub Line : p.Call → p.Call → Type 0
   Line c e = (a b : Access) → IsIn a (p.accesses c) → IsIn b (p.accesses e) → is_postponed a.mode ≡ false → (object : ℕ) → HasObject a object → HasObject b object → agree_of a.mode b.mode ≡ true
 
-  line_first : (c d : p.Call) → p.Fits c → HandsOn p c d → Line c d
+  pub line_first : (c d : p.Call) → p.Fits c → HandsOn p c d → Line c d
   line_first c d fits how a b i j direct object x y =
       let k = pick (λ z. SomeOf (Covers z) (p.accesses c)) (λ z. z ≡ b) (p.accesses d) how.covered j in
       let cover = subst (λ (z : Access). SomeOf (Covers z) (p.accesses c)) k.2 k.1 in
@@ -45,11 +45,11 @@ module _ (symmetric : AgreementIsSymmetric) (less : HandsOnLess) (p : Plan) (obe
       some_access P (z ∷ xs) (inr some) = let k = some_access P xs some in (k.0, k.1, inr k.2)
   line_more c d e line (inr how) a b i j direct object x y = line a b i (subst (IsIn b) how.same j) direct object x y
 
-  line_chain : (es : List p.Call) (c d e : p.Call) → Line c d → Chain (machine p) (rights p) d es e → Line c e
+  pub line_chain : (es : List p.Call) (c d e : p.Call) → Line c d → Chain (machine p) (rights p) d es e → Line c e
   line_chain [] c d e line chain = line_more c d e line chain.how
   line_chain (f ∷ es) c d e line chain = line_chain es c f e (line_more c d f line chain.0.how) chain.1
 
-  direct_by : (c d : p.Call) → Line c d → DirectModesAgree p c d
+  pub direct_by : (c d : p.Call) → Line c d → DirectModesAgree p c d
   direct_by c d line object = each_by _ (p.accesses c) (λ a i direct. each_by _ (p.accesses d) (λ b j x y. line a b i j direct object x y))
 
   -- and with those of all that comes from it

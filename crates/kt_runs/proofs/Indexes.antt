@@ -125,7 +125,7 @@ module _ (p : Program) where
     index_rights c i (is_call t is f) lt = numbered_rights p c t c.task refl is
 
     -- two indexes of the loop
-    two_apart : (path : List ℕ) (c : CallTree) (i j : ℕ) → Fits p c → i < c.length → i ≢ j
+    pub two_apart : (path : List ℕ) (c : CallTree) (i j : ℕ) → Fits p c → i < c.length → i ≢ j
         → Apart (plan_of p) (record { path = path; job = Index c i }) (record { path = path; job = Index c j })
     two_apart path c i j fits lt differ = inr (record {
       first = i;

@@ -20,3 +20,8 @@ pub mod Emptied
 pub mod CoreRuns
 pub mod Going
 pub mod ForkedCalls
+pub mod PathLists
+pub mod PathCalls
+pub mod PathEvents
+pub mod PathCounts
+pub mod PathLines

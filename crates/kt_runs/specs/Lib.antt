@@ -7,3 +7,5 @@ pub mod Numbers
 pub mod Loops
 pub mod CoreEvents
 pub mod Theorems
+pub mod ByPath
+pub mod PathLaws

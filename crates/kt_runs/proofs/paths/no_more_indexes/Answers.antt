@@ -1,0 +1,5 @@
+use Rattle.kt_runs.proofs.PathCounts.{indexes_less}
+use Rattle.kt_runs.proofs.paths.no_more_indexes.Goals as goal
+
+pub returns : goal.returns
+returns c = λ p input ok x h. indexes_less p input (c.programs_meet_laws.ensures p ok) x h
