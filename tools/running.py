@@ -10,7 +10,7 @@ from reading import KERNELS, NotRun, Reader
 
 M = 2**64 - 1
 TASKS, INDEXES, LONG, DEEP = 16_384, 1_048_576, 4_096, 32
-BUDGET = 40_000_000  # steps, before a run is given up
+BUDGET = 20_000_000  # steps, before a run is given up
 
 
 class Fault(Exception):
