@@ -1,6 +1,8 @@
-//! The law of answers. The function does nothing; its contract is the law.
-ghost use Rattle.kaapi.specs.Laws.{OneAnswer};
+//! Laws of answers. The functions do nothing; their contracts are the laws.
+ghost use Rattle.kaapi.specs.Laws.{AnswersWithoutFaults, OneAnswer};
 
+use crate::exits::Exit;
+use kt_io::laws::{Answering, ends_without_faults};
 use kt_read::laws::{job_is_read, one_job, one_refusal};
 
 /// What the words and a job are answered is one answer.
@@ -10,4 +12,20 @@ pub fn one_answer()
     one_job();
     one_refusal();
     job_is_read();
+}
+
+/// This program, by what it answers.
+struct Kaapi;
+
+impl Answering<Exit> for Kaapi {
+    ghost use Rattle.kaapi.specs.Answers.{Answers};
+
+    ghost answers = { Answers };
+}
+
+/// A call whose streams did not fail wrote the answer to its words and its job, unless there was no memory.
+pub fn answers_without_faults()
+    ensures { AnswersWithoutFaults }
+{
+    ends_without_faults::<Exit, Kaapi>();
 }

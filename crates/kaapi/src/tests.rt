@@ -1,5 +1,5 @@
 use crate::exits::Exit;
-use crate::laws::one_answer;
+use crate::laws::{answers_without_faults, one_answer};
 use crate::top::top_plain;
 use kt_io::{MemSink, MemSource};
 use kt_law::JOB;
@@ -388,4 +388,5 @@ fn jobs_cut_off(rt: HostRuntime) -> Result<(), Fail> {
 #[test]
 fn laws_have_callers() {
     one_answer();
+    answers_without_faults();
 }

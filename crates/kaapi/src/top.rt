@@ -1,10 +1,9 @@
 // A whole call: words and bytes in, an exit and bytes out.
 ghost use Rattle.std.specs.Prelude.{◌≡◌, ◌≤◌, length, false};
-ghost use Rattle.kt_io.specs.Ending.{ForJob, Said, Sends};
+ghost use Rattle.kt_io.specs.Ending.{EndsWith, ForJob, Said, Sends, SendsOrLacks};
 ghost use Rattle.kt_io.specs.Over.{over};
 ghost use Rattle.kt_text.specs.Words.{command_of, texts_of};
 ghost use Rattle.kaapi.specs.Answers.{Answers, AnswersAsked, AnswersJob, asks_job, faults, told};
-ghost use Rattle.kaapi.specs.Top.{EndsWith, SendsOrLacks};
 ghost use Rattle.kaapi.specs.declared.exits.Exit.{Exit};
 
 use crate::asked::{Asked, Choice, Way};
@@ -24,7 +23,7 @@ pub fn top_plain<S: Source, K: Sink>(
     source: &mut S,
     sink: &mut K,
 ) -> Exit
-    ensures answers { ForJob (S.left source.old) (λ job. EndsWith (Answers (texts_of words.now) job)
+    ensures answers { ForJob (S.left source.old) (λ job. EndsWith faults (Answers (texts_of words.now) job)
         (over S.left S.faults source.old source.new) (over K.written K.faults sink.old sink.new) result) }
     ensures unread { asks_job (command_of (texts_of words.now)) ≡ false → source.new ≡ source.old }
     ensures source_later { S.faults source.old ≤ S.faults source.new }
@@ -52,7 +51,7 @@ fn answer_source<S: Source, K: Sink>(
     source: &mut S,
     sink: &mut K,
 ) -> Exit
-    ensures answers { ForJob (S.left source.old) (λ job. EndsWith (AnswersJob (AnswersAsked asked) job)
+    ensures answers { ForJob (S.left source.old) (λ job. EndsWith faults (AnswersJob (AnswersAsked asked) job)
         (over S.left S.faults source.old source.new) (over K.written K.faults sink.old sink.new) result) }
     ensures source_later { S.faults source.old ≤ S.faults source.new }
     ensures sink_later { K.faults sink.old ≤ K.faults sink.new }
@@ -67,7 +66,7 @@ fn answer_source<S: Source, K: Sink>(
 
 fn answer_job<K: Sink>(alloc: Global, asked: Asked, job: &[u8], sink: &mut K) -> Exit
     requires { length job.now ≤ JOB }
-    ensures sent { SendsOrLacks (AnswersAsked asked job.now) (over K.written K.faults sink.old sink.new) result }
+    ensures sent { SendsOrLacks faults (AnswersAsked asked job.now) (over K.written K.faults sink.old sink.new) result }
     ensures later { K.faults sink.old ≤ K.faults sink.new }
 {
     match reply_to(alloc, asked, job) {
@@ -78,7 +77,7 @@ fn answer_job<K: Sink>(alloc: Global, asked: Asked, job: &[u8], sink: &mut K) ->
 
 // Writes an answer of one line.
 fn tell<K: Sink>(alloc: Global, exit: Exit, line: &Line, sink: &mut K) -> Exit
-    ensures sent { SendsOrLacks (λ (reply : Said Exit). reply ≡ told exit line.now) (over K.written K.faults sink.old sink.new) result }
+    ensures sent { SendsOrLacks faults (λ (reply : Said Exit). reply ≡ told exit line.now) (over K.written K.faults sink.old sink.new) result }
     ensures later { K.faults sink.old ≤ K.faults sink.new }
 {
     match line_bytes(alloc, line) {

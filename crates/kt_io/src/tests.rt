@@ -10,6 +10,15 @@ const INPUT: [u8; 93] = [b'7'; 93];
 
 const LINE: [u8; 8] = *b"A[0] 42\n";
 
+// What answers each job with its own bytes, and 0.
+struct Echo;
+
+impl laws::Answering<u8> for Echo {
+    ghost use Rattle.std.specs.Prelude.{◌≡◌};
+
+    ghost answers = { λ words job reply. reply ≡ record { exit = 0; text = job } };
+}
+
 // Reads the input in pieces, where one call fails; 0 is none.
 fn read_input(
     alloc: Global,
@@ -164,6 +173,6 @@ fn errors_are_told_in_words(rt: HostRuntime) -> Result<(), Fail> {
     let told = format!(in alloc; "{Failed}, {}, {}", ReadError::TooLong, ReadError::NoMemory)?;
     assert_eq!(rt; told.as_str(), "the device failed, too long, out of memory");
     laws::constant_count_never_rose();
-    laws::ends_without_faults::<u8>();
+    laws::ends_without_faults::<u8, Echo>();
     Ok(())
 }

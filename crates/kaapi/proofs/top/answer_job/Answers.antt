@@ -1,4 +1,4 @@
-use Rattle.kaapi.specs.Top.SendsOrLacks.{sends}
+use Rattle.kt_io.specs.Ending.SendsOrLacks.{sends}
 use Rattle.kaapi.proofs.top.answer_job.Goals as goal
 
 pub returns-in-Ok-clause-sent : goal.returns-in-Ok-clause-sent

@@ -3,7 +3,7 @@ use Rattle.kt_io.specs.Ending.{Said}
 use Rattle.kt_print.specs.declared.lines.Line.TheVariants as L
 use Rattle.kaapi.specs.Answers.{AnswersAsked, AnswersJob, told}
 use Rattle.kaapi.specs.Answers.AnswersJob.{too_long, within}
-use Rattle.kaapi.specs.Top.EndsWith.{fails_to_read, lacks_memory}
+use Rattle.kt_io.specs.Ending.EndsWith.{fails_to_read, lacks_memory}
 use Rattle.kaapi.specs.declared.exits.Exit.{Exit}
 use Rattle.kaapi.specs.declared.exits.Exit.TheVariants as E
 use Rattle.kaapi.proofs.Endings.{ends, for_any_job, keeps_same}

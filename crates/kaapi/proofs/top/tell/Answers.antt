@@ -1,6 +1,6 @@
 use Rattle.std.proofs.Common.{refl}
 use Rattle.kaapi.specs.Answers.{told}
-use Rattle.kaapi.specs.Top.SendsOrLacks.{sends}
+use Rattle.kt_io.specs.Ending.SendsOrLacks.{sends}
 use Rattle.kaapi.proofs.top.tell.Goals as goal
 
 pub returns-in-Ok-clause-sent : goal.returns-in-Ok-clause-sent

@@ -5,7 +5,7 @@ use Rattle.kt_print.specs.declared.lines.Line.TheVariants as L
 use Rattle.kt_text.specs.Words.{texts_of}
 use Rattle.kt_text.specs.declared.commands.Command.TheVariants as C
 use Rattle.kaapi.specs.Answers.{AnswersCommand, not_built, told}
-use Rattle.kaapi.specs.Top.EndsWith.{answered}
+use Rattle.kt_io.specs.Ending.EndsWith.{answered}
 use Rattle.kaapi.specs.declared.exits.Exit.{Exit}
 use Rattle.kaapi.specs.declared.exits.Exit.TheVariants as E
 use Rattle.kaapi.proofs.FewWorkers.{few_workers}
