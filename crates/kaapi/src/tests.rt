@@ -7,8 +7,14 @@ use std::alloc::{AllocError, Global};
 use std::process::Abort;
 use std::test::Fail;
 
+mod cut;
+mod streams;
+
 const COUNTER: &str =
     "object A of 1 input output;\ntask inc(x P) { P[0] = P[0] + 1; }\nmain { fork inc(A); }\ndata\n41\n";
+
+const WRAPS: &str =
+    "object A of 1 input output;\ntask inc(x P) { P[0] = P[0] + 1; }\nmain { fork inc(A); }\ndata\n18446744073709551615\n";
 
 const SATURATES: &str =
     "object A of 1 input output;\ntask inc(x P) { P[0] = satadd(P[0], 1); }\nmain { fork inc(A); }\ndata\n18446744073709551615\n";
@@ -31,8 +37,11 @@ const NEVER_RUN: &str =
 const ALIAS: &str =
     "object D[4] of 1 output;\ntask mix(r P, x Q) { Q[0] = P[0] + 1; }\nmain { for i in 0..2 { fork mix(D[i], D[1]); } }\ndata\n";
 
+const READ_TWICE: &str =
+    "object D[4] of 1 output;\ntask mix(r P, r Q) { let v = P[0] + Q[0]; }\nmain { for i in 0..2 { fork mix(D[i], D[1]); } }\ndata\n";
+
 const FIRST_FAULT: &str =
-    "object Z of 1;\ntask slow(x P) { for i in 0..1000 { P[0] = i; } P[0] = 1 / 0; }\ntask fast(int v) { let q = v / 0; }\nmain { fork slow(Z); fork fast(1); }\ndata\n";
+    "object Z of 1;\ntask slow(x P) { for i in 0..100000 { P[0] = i; } P[0] = 1 / 0; }\ntask fast(int v) { let q = v / 0; }\nmain { fork slow(Z); fork fast(1); }\ndata\n";
 
 const PAST_THE_END: &str =
     "object A of 2 output;\ntask set(x P) { P[1] = 6; P[2] = 7; }\nmain { fork set(A); }\ndata\n";
@@ -50,8 +59,34 @@ const TOO_MANY: &str =
 const DEEP: &str =
     "object A of 1 output;\ntask down(int k, cw(add) P) { P[0] add= 1; if k > 0 { fork down(k - 1, P); } }\nmain { fork down(31, A); }\ndata\n";
 
+const TOO_DEEP: &str =
+    "object A of 1 output;\ntask down(int k, cw(add) P) { P[0] add= 1; if k > 0 { fork down(k - 1, P); } }\nmain { fork down(32, A); }\ndata\n";
+
 const HALVES: &str =
     "object A[4] of 1 output;\ntask put(int v, w P) { P[0] = v; }\ntask fill(int v, int n, wp R[]) {\n  if n == 1 { fork put(v, R[0]); } else {\n    fork fill(v, n / 2, R[0..n / 2]);\n    fork fill(v + n / 2, n - n / 2, R[n / 2..n]);\n  }\n}\nmain { fork fill(10, 4, A); }\ndata\n";
+
+const FIFTHS: &str =
+    "object A[4] of 1 output;\ntask put(int v, w P) { P[0] = v; }\ntask fill(int v, int n, wp R[]) {\n  if n == 1 { fork put(v, R[0]); } else {\n    fork fill(v, n / 2, R[0..n / 2]);\n    fork fill(v + n / 2, n - n / 2, R[n / 2..n]);\n  }\n}\nmain { fork fill(10, 5, A); }\ndata\n";
+
+const MOST_STEPS: &str = "task spin() { for i in 0..4194303 {} }\nmain { fork spin(); }\ndata\n";
+
+const TOO_MANY_STEPS: &str =
+    "task spin() { for i in 0..4194304 {} }\nmain { fork spin(); }\ndata\n";
+
+// A product of two matrices of four tiles each.
+const PRODUCT: &str =
+    "object A[4] of 4 input;\nobject B[4] of 4 input;\nobject C[4] of 4 output;\ntask mul(int n, r P, r Q, cw(add) T) {\nfor i in 0..n { for j in 0..n { for k in 0..n {\nT[i * n + j] add= P[i * n + k] * Q[k * n + j];\n} } }\n}\nmain {\nfor i in 0..2 { for j in 0..2 { for k in 0..2 {\nfork mul(2, A[i * 2 + k], B[k * 2 + j], C[i * 2 + j]);\n} } }\n}\ndata\n1 2 3 4 5 6 7 8 1 0 0 1 0 1 1 0\n1 0 0 1 1 1 1 1 2 0 0 2 0 1 0 1\n";
+
+// The same by a kernel.
+const KERNEL_PRODUCT: &str =
+    "object A[4] of 4 input;\nobject B[4] of 4 input;\nobject C[4] of 4 output;\nmain {\nfor i in 0..2 { for j in 0..2 { for k in 0..2 {\nfork k_mul(2, 2, 2, A[i * 2 + k], B[k * 2 + j], C[i * 2 + j]);\n} } }\n}\ndata\n1 2 3 4 5 6 7 8 1 0 0 1 0 1 1 0\n1 0 0 1 1 1 1 1 2 0 0 2 0 1 0 1\n";
+
+const KERNEL_PRODUCT_TEXT: &str =
+    "object A[4] of 4 input;\nobject B[4] of 4 input;\nobject C[4] of 4 output;\nmain {\n  for i in 0..2 {\n    for j in 0..2 {\n      for k in 0..2 {\n        fork k_mul(2, 2, 2, A[i * 2 + k], B[k * 2 + j], C[i * 2 + j]);\n      }\n    }\n  }\n}\ndata\n";
+
+// 64 signs `(`, of which the last nests too deep.
+const NESTED: &str =
+    "main { let v = ((((((((((((((((((((((((((((((((((((((((((((((((((((((((((((((((";
 
 const A_LOOP: &str =
     "object A of 1 output;\nloop c(i; cw(add) P) { P[0] add= i; }\nmain { fork c(3; A); }\ndata 5\n";
@@ -99,7 +134,7 @@ fn ends(
     assert!(rt; pieces.0 > 0 && pieces.1 > 0);
     let bytes = case.job.as_bytes().to_vec(alloc)?;
     let mut source = MemSource::new(bytes, pieces.0, [fails.0].to_vec(alloc)?);
-    let mut sink = MemSink::new(alloc, 200, pieces.1, [fails.1].to_vec(alloc)?)?;
+    let mut sink = MemSink::new(alloc, 500, pieces.1, [fails.1].to_vec(alloc)?)?;
     let found = top_plain(alloc, &words_of(alloc, case.words)?, &mut source, &mut sink);
     assert!(rt; found == case.exit, "{}", case.job);
     assert!(rt; sink.written() == case.text.as_bytes(), "{}", case.job);
@@ -113,10 +148,14 @@ fn end_whole(rt: &impl Abort, alloc: Global, cases: &[Case]) -> Result<(), Fail>
     Ok(())
 }
 
-// Whatever a job is answered in reference order it is answered by events, with any number of workers and any choice.
-fn end_alike(rt: &impl Abort, alloc: Global, cases: &[Case]) -> Result<(), Fail> {
+fn end_by(
+    rt: &impl Abort,
+    alloc: Global,
+    ways: &[&'static str],
+    cases: &[Case],
+) -> Result<(), Fail> {
     for case in cases {
-        for words in ["seq", "sim 1 0", "sim 3 7", "sim 8 18446744073709551615"] {
+        for words in ways {
             let case = answers(words, case.job, case.exit, case.text);
             ends(rt, alloc, &case, (100, 100), (0, 0))?;
         }
@@ -124,16 +163,36 @@ fn end_alike(rt: &impl Abort, alloc: Global, cases: &[Case]) -> Result<(), Fail>
     Ok(())
 }
 
+// Whatever a job is answered in reference order it is answered by events, with any number of workers and any choice.
+fn end_alike(rt: &impl Abort, alloc: Global, cases: &[Case]) -> Result<(), Fail> {
+    let ways = ["seq", "sim 1 0", "sim 3 7", "sim 8 18446744073709551615"];
+    end_by(rt, alloc, &ways, cases)
+}
+
 #[test]
 fn runs_end_in_rows(rt: HostRuntime) -> Result<(), Fail> {
     let cases = [
         answers("seq", "main {}\ndata\n", Exit::Done, ""),
         answers("seq", COUNTER, Exit::Done, "A[0] 42\n"),
+        answers("seq", WRAPS, Exit::Done, "A[0] 0\n"),
         answers("seq", SATURATES, Exit::Done, "A[0] 18446744073709551615\n"),
         answers("seq", ZEROED, Exit::Done, "A[0] 0 7 0\n"),
         answers("seq", LAST_WRITE, Exit::Done, "A[0] 4\nB[0] 4\n"),
         answers("seq", CUMULATED, Exit::Done, "A[0] 55\nB[0] 55\n"),
         answers("seq", TWO_LAWS, Exit::Done, "A[0] 11\n"),
+        answers(
+            "seq",
+            READ_TWICE,
+            Exit::Done,
+            "D[0] 0\nD[1] 0\nD[2] 0\nD[3] 0\n",
+        ),
+        answers("seq", MOST_STEPS, Exit::Done, ""),
+        answers(
+            "seq",
+            PRODUCT,
+            Exit::Done,
+            "C[0] 11 14 17 20\nC[1] 3 14 7 22\nC[2] 1 2 2 1\nC[3] 1 2 1 2\n",
+        ),
         answers("seq", MANY, Exit::Done, "A[0] 16383\n"),
         answers("seq", DEEP, Exit::Done, "A[0] 32\n"),
         answers(
@@ -153,6 +212,14 @@ fn runs_end_in_faults_and_limits(rt: HostRuntime) -> Result<(), Fail> {
         answers("seq", FIRST_FAULT, Exit::Fault, "fault F1 1 line 2\n"),
         answers("seq", PAST_THE_END, Exit::Fault, "fault F2 1 line 2\n"),
         answers("seq", PARENT_FAULT, Exit::Fault, "fault F1 1 line 2\n"),
+        answers("seq", FIFTHS, Exit::Fault, "fault F3 1 line 6\n"),
+        answers(
+            "seq",
+            TOO_DEEP,
+            Exit::Fault,
+            "fault F5 1.1.1.1.1.1.1.1.1.1.1.1.1.1.1.1.1.1.1.1.1.1.1.1.1.1.1.1.1.1.1.1 line 2\n",
+        ),
+        answers("seq", TOO_MANY_STEPS, Exit::Fault, "fault F6 1 line 1\n"),
         answers("seq", TOO_MANY, Exit::Limit, "limit\n"),
         answers("seq", A_LOOP, Exit::NotBuilt, "not built\n"),
         answers("seq", A_KERNEL, Exit::NotBuilt, "not built\n"),
@@ -186,41 +253,47 @@ fn data_are_refused(rt: HostRuntime) -> Result<(), Fail> {
     end_alike(&rt, rt.alloc(), &cases)
 }
 
+// Texts that are refused, and how.
+const REFUSED: [(&str, &str); 15] = [
+    ("main { @ }", "refused P1 1:8\n"),
+    ("main { let v = 12ab; }", "refused P2 1:16\n"),
+    (
+        "main { let v = 18446744073709551616; }",
+        "refused P3 1:16\n",
+    ),
+    ("main {}\n", "refused P4 2:1\n"),
+    (NESTED, "refused P14 1:79\n"),
+    (
+        "object A of 1; object A of 1; main {} data",
+        "refused P5 1:23\n",
+    ),
+    ("main { fork t(); } data", "refused P6 1:13\n"),
+    ("task t() {} main { fork t(1); } data", "refused P7 1:25\n"),
+    (
+        "task t(int v) {} object A of 1; main { fork t(A); } data",
+        "refused P8 1:47\n",
+    ),
+    (NEVER_RUN, "refused P9 5:14\n"),
+    (
+        "object A of 1; task t(r P) { P[0] = 1; } main {} data",
+        "refused P10 1:30\n",
+    ),
+    (
+        "loop l(i; x P) { P[0] = 1; } main {} data",
+        "refused P11 1:18\n",
+    ),
+    ("object A of 4097; main {} data", "refused P12 1:8\n"),
+    ("data", "refused P13 1:1\n"),
+    ("", "refused P4 1:1\n"),
+];
+
 #[test]
 fn texts_are_refused(rt: HostRuntime) -> Result<(), Fail> {
-    let cases = [
-        answers("seq", "", Exit::Refused, "refused P4 1:1\n"),
-        answers("check", "main { @ }", Exit::Refused, "refused P1 1:8\n"),
-        answers(
-            "seq",
-            "main { let v = 12ab; }",
-            Exit::Refused,
-            "refused P2 1:16\n",
-        ),
-        answers(
-            "check",
-            "main { let v = 18446744073709551616; }",
-            Exit::Refused,
-            "refused P3 1:16\n",
-        ),
-        answers("seq", "main {}\n", Exit::Refused, "refused P4 2:1\n"),
-        answers("check", "main {} data5", Exit::Refused, "refused P4 1:9\n"),
-        answers(
-            "check",
-            "main { fork t(); } data",
-            Exit::Refused,
-            "refused P6 1:13\n",
-        ),
-        answers("seq", NEVER_RUN, Exit::Refused, "refused P9 5:14\n"),
-        answers(
-            "check",
-            "loop l(i; x P) { P[0] = 1; } main {} data",
-            Exit::Refused,
-            "refused P11 1:18\n",
-        ),
-        answers("check", "data", Exit::Refused, "refused P13 1:1\n"),
-    ];
-    end_whole(&rt, rt.alloc(), &cases)
+    for (job, text) in REFUSED {
+        let case = answers("seq", job, Exit::Refused, text);
+        end_by(&rt, rt.alloc(), &["check", "seq", "sim 3 7"], &[case])?;
+    }
+    Ok(())
 }
 
 const WORLD: &str =
@@ -319,23 +392,9 @@ fn texts_are_printed(rt: HostRuntime) -> Result<(), Fail> {
         answers("check", ROUND_TRIP, Exit::Done, CANONICAL),
         answers("check", CANONICAL, Exit::Done, CANONICAL),
         answers("check", "main {} data 5", Exit::Done, "main {\n}\ndata\n"),
+        answers("check", KERNEL_PRODUCT, Exit::Done, KERNEL_PRODUCT_TEXT),
     ];
     end_whole(&rt, rt.alloc(), &cases)
-}
-
-#[test]
-fn streams_may_fail(rt: HostRuntime) -> Result<(), Fail> {
-    let alloc = rt.alloc();
-    let whole = answers("seq", COUNTER, Exit::Done, "A[0] 42\n");
-    ends(&rt, alloc, &whole, (1, 1), (0, 0))?;
-    let unread = answers("seq", COUNTER, Exit::ReadFault, "");
-    for call in 1..=10 {
-        ends(&rt, alloc, &unread, (10, 100), (call, 0))?;
-    }
-    let unwritten = answers("seq", COUNTER, Exit::WriteFault, "A[0] ");
-    ends(&rt, alloc, &unwritten, (10, 5), (0, 2))?;
-    let refused = answers("seq", "@", Exit::WriteFault, "refus");
-    ends(&rt, alloc, &refused, (10, 5), (0, 2))
 }
 
 #[test]
@@ -367,21 +426,6 @@ fn a_job_of_one_byte_too_many(rt: HostRuntime) -> Result<(), Fail> {
     let found = top_plain(alloc, &words_of(alloc, "seq")?, &mut source, &mut sink);
     assert!(rt; found == Exit::TooLong);
     assert!(rt; sink.written() == b"too long\n".as_slice());
-    Ok(())
-}
-
-// However a job is cut off, it has one answer.
-#[test]
-fn jobs_cut_off(rt: HostRuntime) -> Result<(), Fail> {
-    let alloc = rt.alloc();
-    let whole = COUNTER.as_bytes();
-    for length in 0..whole.len() {
-        let mut source = MemSource::new(whole[..length].to_vec(alloc)?, 4096, Vec::new(alloc));
-        let mut sink = MemSink::new(alloc, 100, 100, Vec::new(alloc))?;
-        let found = top_plain(alloc, &words_of(alloc, "seq")?, &mut source, &mut sink);
-        let refused = found == Exit::Refused || found == Exit::BadData;
-        assert!(rt; refused == (length < 91), "{length}");
-    }
     Ok(())
 }
 
