@@ -83,6 +83,8 @@ class Run:
 
     def run(self):
         root = Task("main", 0, 0, None, [], ())
+        for name in self.reader.tasks.keys() - self.kernels:
+            self.body(name)
         try:
             self.whole(root)
         except (NameError, TypeError, AttributeError):

@@ -1,5 +1,5 @@
 -- The statements for accepted programs over cores as functions from paths to tasks.
-use Rattle.std.specs.Prelude.{◌≡◌, suc, false, ◌↔◌, ℕ, ◌+◌, ◌≤◌, ◌<◌, List, [], ◌∷◌, ◌++◌, length, ◌⊎◌}
+use Rattle.std.specs.Prelude.{◌≡◌, false, ◌↔◌, ℕ, ◌+◌, ◌≤◌, ◌<◌, List, [], ◌∷◌, ◌++◌, length, ◌⊎◌}
 use Rattle.kt_law.specs.Acts.{Act}
 use Rattle.kt_order.specs.Lists.{SomeOf}
 use Rattle.kt_order.specs.Forest.{Unclaimed, Running, Ended, Finished, fresh}
