@@ -28,11 +28,11 @@ def run(command, job, **settings):
         return ran.returncode, ran.stdout, os.fstat(mark.fileno()).st_size > 0
 
 
-def each_call(command, job, setting):
+def each_call(command, job, setting, **others):
     """What comes of failing calls 1, 2, .. until no such call is made."""
     number = 1
     while True:
-        status, out, refused = run(command, job, **{setting: number})
+        status, out, refused = run(command, job, **{setting: number}, **others)
         if not refused:
             return
         yield number, status, out
@@ -67,21 +67,18 @@ def memory(count, name, words, job):
 def streams(count, name, words, job):
     command = [PROGRAM, *words]
     status, text = run(command, job)[:2]
-    failed = {"FAIL_READ": 0, "FAIL_WRITE": 0}
-    for setting, wanted in (("FAIL_READ", READ_FAULT), ("FAIL_WRITE", WRITE_FAULT)):
-        for piece in (1, 10, 4096):
-            pieces = {"READ_PIECE": piece, "WRITE_PIECE": piece}
-            number = 1
-            while True:
-                found, out, refused = run(command, job, **{setting: number}, **pieces)
-                if not refused:
-                    break
+    calls = {"FAIL_READ": 0, "FAIL_WRITE": 0}
+    for piece in (1, 10, 4096):
+        pieces = {"READ_PIECE": piece, "WRITE_PIECE": piece}
+        for setting, wanted in (("FAIL_READ", READ_FAULT), ("FAIL_WRITE", WRITE_FAULT)):
+            for number, found, out in each_call(command, job, setting, **pieces):
                 front = b"" if setting == "FAIL_READ" else text[: piece * (number - 1)]
                 count.judge((found, out) == (wanted, front), f"{name} {' '.join(words)}, {setting} {number}, pieces of {piece}", (found, out))
-                failed[setting] += 1
-                number += 1
-            count.judge((found, out) == (status, text), f"{name} {' '.join(words)}, pieces of {piece}", (found, out))
-    print(f"{name}, {' '.join(words)}: {failed['FAIL_READ']} failing reads and {failed['FAIL_WRITE']} failing writes, and pieces of 1, 10 and 4096 bytes")
+                calls[setting] += 1
+        found = run(command, job, **pieces)[:2]
+        count.judge(found == (status, text), f"{name} {' '.join(words)}, pieces of {piece}", found)
+    print(f"{name}, {' '.join(words)}: {calls['FAIL_READ']} reads and {calls['FAIL_WRITE']} writes that fail, of pieces of 1, 10 and 4096 bytes; "
+          "and the answer in each of the pieces")
 
 
 def cut(count, name, oracle, job):
