@@ -24,4 +24,5 @@ pub mod PathLists
 pub mod PathCalls
 pub mod PathEvents
 pub mod PathCounts
+pub mod PathsListed
 pub mod PathLines

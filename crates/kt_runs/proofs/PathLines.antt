@@ -3,7 +3,7 @@ use Rattle.std.proofs.Common.{◌≡◌, ℕ, zero, suc, true, false, List, [], 
 use Rattle.kt_law.specs.Laws.{AgreementIsSymmetric, HandsOnLess}
 use Rattle.kt_order.specs.Lists.{SomeOf}
 use Rattle.kt_order.specs.Sequential.{Run}
-use Rattle.kt_order.specs.Shown.{Begins}
+use Rattle.kt_order.specs.Shown.{entry_of, Begins}
 use Rattle.kt_order.proofs.PathBegins.{path_begins}
 use Rattle.kt_order.specs.Laws.{Laws}
 use Rattle.kt_order.specs.Forest.{Finished}
@@ -25,8 +25,9 @@ use Rattle.kt_rights.specs.Theorems.{DirectModesAgree}
 use Rattle.kt_runs.specs.Plans.{plan_of}
 use Rattle.kt_runs.specs.Rights.{rights_in}
 use Rattle.kt_runs.specs.Theorems.{whole_at}
-use Rattle.kt_runs.specs.ByPath.{Path, child, levels, ByPath, core_of, IsLawfulByPath, counts, IsTask, IsPlacedAt, GivesReferenceByPath}
+use Rattle.kt_runs.specs.ByPath.{Path, child, levels, ByPath, core_of, IsLawfulByPath, counts, IsTask, paths_of, IsPlacedAt, GivesReferenceByPath}
 use Rattle.kt_rights.proofs.Lines.{line_first, line_chain, direct_by}
+use Rattle.kt_runs.proofs.PathsListed.{In, in_map, there_in}
 use Rattle.kt_runs.proofs.PathLists.{snoc_same}
 use Rattle.kt_runs.proofs.PathCalls.{fits_at, parent_there, kid_handed, calls_fit}
 
@@ -58,6 +59,8 @@ module _ (p : Program) (input : List ℕ) (l : Laws (machine_of p) (rights_in p)
         tasks = ap (λ (r : Run (machine_of p)). tasks_of p r.entries) same;
         indexes = ap (λ (r : Run (machine_of p)). indexes_of p r.entries) same;
         faults = ap (λ (r : Run (machine_of p)). faults_of p r.entries) same;
+        entry = λ q there. subst (In (entry_of (machine_of p) (x.get q))) (ap (λ (r : Run (machine_of p)). r.entries) same)
+            (in_map (λ (y : Path). entry_of (machine_of p) (x.get y)) q (paths_of p x) (there_in levels (counts p x) q there));
         finished = λ q there. done_there (machine_of p) (rights_in p) l levels main_placed (opened_with p.families input) x h fin q there;
       }
 

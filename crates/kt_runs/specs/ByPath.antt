@@ -4,6 +4,7 @@
 use Rattle.std.specs.Prelude.{◌≡◌, ℕ, suc, ◌<◌, true, false, List, [], ◌∷◌, ◌++◌, length, map, Option, None, Some}
 use Rattle.kt_law.specs.Acts.{Act, Load, Store, Fold}
 use Rattle.kt_law.specs.declared.limits.TheConstants.{DEPTH}
+use Rattle.kt_order.specs.Lists.{SomeOf}
 use Rattle.kt_order.specs.Body.{Stop, Do, Fork}
 use Rattle.kt_order.specs.Machine.{Code}
 use Rattle.kt_order.specs.Sequential.{Entry}
@@ -38,6 +39,11 @@ child q k = q ++ k ∷ []
 -- no path is longer: an index of a loop lies one deeper than its loop
 abbrev pub levels : ℕ
 levels = suc DEPTH
+
+-- no two members of the list are the same
+abbrev pub NoTwice : {X : Type 0} → List X → Type 0
+NoTwice [] = Unit {0}
+NoTwice (x ∷ xs) = (SomeOf (λ y. x ≡ y) xs → ⊥) × NoTwice xs
 
 -- what holds of the path of each earlier child of the same parent
 abbrev pub EachEarlier : (Path → Type 0) → Path → Type 0
@@ -155,8 +161,9 @@ module _ (p : Program) where
     pub tasks : tasks_of p (entries_by_path x) ≡ tasks_of p (reference p input).entries
     pub indexes : indexes_of p (entries_by_path x) ≡ indexes_of p (reference p input).entries
     pub faults : faults_of p (entries_by_path x) ≡ faults_of p (reference p input).entries
-    -- each task is finished
+    -- each task is finished, and its entry is one of the reference run
     pub finished : (q : Path) → IsTask x q → (x.get q).phase ≡ Finished
+    pub entry : (q : Path) → IsTask x q → SomeOf (λ e. entry_of (machine_of p) (x.get q) ≡ e) (reference p input).entries
 
   -- how many tasks, and how many indexes, a body forks next, up to the first load
   abbrev pub tasks_at_hand : Code (machine_of p) → ℕ

@@ -19,7 +19,7 @@ use Rattle.kt_prog.specs.declared.programs.Program.{Program}
 use Rattle.kt_prog.specs.declared.runs.Operation.{Operation}
 use Rattle.kt_rights.specs.Theorems.{ModesAgree, DirectModesAgree}
 use Rattle.kt_runs.specs.Plans.{plan_of}
-use Rattle.kt_runs.specs.ByPath.{Path, child, EachEarlier, one_task, one_index, ByPath, IsLawfulByPath, counts, IsTask, paths_of, ActsNext, ForksNext, EndsNext, GoesOnBy, after_claim, after_act, after_end, after_fork, after_finish, StaysLawful, NoClash, IsPlacedAt, GivesReferenceByPath, tasks_at_hand, indexes_at_hand}
+use Rattle.kt_runs.specs.ByPath.{Path, child, NoTwice, EachEarlier, one_task, one_index, ByPath, IsLawfulByPath, counts, IsTask, paths_of, ActsNext, ForksNext, EndsNext, GoesOnBy, after_claim, after_act, after_end, after_fork, after_finish, StaysLawful, NoClash, IsPlacedAt, GivesReferenceByPath, tasks_at_hand, indexes_at_hand}
 
 -- with main unclaimed and the input in the store a core is lawful, and main is its only task
 abbrev pub OpensByPath : Type 0
@@ -35,6 +35,10 @@ CallsFitPaths = (p : Program) (input : List ℕ) → IsAccepted p → (x : ByPat
 abbrev pub ChildrenAreTasks : Type 0
 ChildrenAreTasks = (p : Program) (input : List ℕ) → IsAccepted p → (x : ByPath p) → IsLawfulByPath p input x → (q : Path) (k : ℕ)
     → IsTask p x (child q k) ↔ (IsTask p x q × (k < counts p x q))
+
+-- the list of paths has each path that leads to a task once, and no other
+abbrev pub TasksAreListed : Type 0
+TasksAreListed = (p : Program) (x : ByPath p) → NoTwice (paths_of p x) × ((q : Path) → IsTask p x q ↔ SomeOf (λ r. q ≡ r) (paths_of p x))
 
 -- the next operation of a task is what its body goes on by
 abbrev pub NextGoesOn : Type 0

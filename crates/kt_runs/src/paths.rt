@@ -1,5 +1,5 @@
 //! The laws of runs over a core as a function from paths to tasks. The functions do nothing; their contracts are the laws.
-ghost use Rattle.kt_runs.specs.PathLaws.{ActByPath, BeginsReferenceByPath, CallsFitPaths, ChildrenAreTasks, ClaimInOrderByPath, ClaimReadyByPath, DoneByPath, EndByPath, FinishByPath, ForkByPath, ForkedCallByPath, IndexClaimByPath, LineAgreesByPath, NextGoesOn, NoMoreIndexesByPath, NoMoreTasksByPath, OpensByPath, SeparateAgreeByPath, WeighsNoMoreByPath};
+ghost use Rattle.kt_runs.specs.PathLaws.{ActByPath, BeginsReferenceByPath, CallsFitPaths, ChildrenAreTasks, ClaimInOrderByPath, ClaimReadyByPath, DoneByPath, EndByPath, FinishByPath, ForkByPath, ForkedCallByPath, IndexClaimByPath, LineAgreesByPath, NextGoesOn, NoMoreIndexesByPath, NoMoreTasksByPath, OpensByPath, SeparateAgreeByPath, TasksAreListed, WeighsNoMoreByPath};
 
 use crate::laws::{programs_meet_laws, programs_obey, side_by_side_agree};
 use kt_law::laws::{agreement_is_symmetric, hands_on_less};
@@ -27,6 +27,11 @@ pub fn children_are_tasks()
     bodies_keep();
     programs_meet_laws();
 }
+
+/// The list of paths has each path that leads to a task once, and no other.
+pub fn tasks_are_listed()
+    ensures { TasksAreListed }
+{}
 
 /// The next operation of a task is what its body goes on by.
 pub fn next_goes_on()
