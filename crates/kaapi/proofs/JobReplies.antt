@@ -8,8 +8,8 @@ use Rattle.kt_frames.specs.OnlyTasks.{only_tasks}
 use Rattle.kt_prog.specs.Refusals.{refusal_of, noted}
 use Rattle.kt_prog.specs.declared.programs.Program.{Program}
 use Rattle.kt_print.specs.declared.lines.Line.{Line}
-use Rattle.kt_read.specs.Answers.{Answered, IsAnswer, IsRefused, answered_line}
-use Rattle.kt_read.specs.Answers.IsRefused.{unread, broken}
+use Rattle.kt_open.specs.Answers.{Answered, IsAnswer, IsRefused, answered_line}
+use Rattle.kt_open.specs.Answers.IsRefused.{unread, broken}
 use Rattle.kt_read.specs.Jobs.{IsJob}
 use Rattle.kt_read.specs.Laws.{OneJob, JobIsRead}
 use Rattle.kaapi.specs.Answers.{told}

@@ -20,9 +20,9 @@ use Rattle.kt_print.specs.CanonicalText.{canonical_text}
 use Rattle.kt_print.specs.Lines.{line_of}
 use Rattle.kt_print.specs.declared.lines.Line.{Line}
 use Rattle.kt_print.specs.declared.lines.Line.TheVariants as L
-use Rattle.kt_read.specs.Answers.{Answered, IsAnswer, IsRefused, Opens, Unopens, answered_line, answered_run}
-use Rattle.kt_read.specs.Answers.{IsAnswer as I, Unopens as U}
-use Rattle.kt_read.specs.Answers.IsRefused.{unread, broken}
+use Rattle.kt_open.specs.Answers.{Answered, IsAnswer, IsRefused, Opens, Unopens, answered_line, answered_run}
+use Rattle.kt_open.specs.Answers.{IsAnswer as I, Unopens as U}
+use Rattle.kt_open.specs.Answers.IsRefused.{unread, broken}
 use Rattle.kt_read.specs.Jobs.{IsJob}
 use Rattle.kt_read.specs.Laws.{OneJob, OneRefusal, JobIsRead}
 use Rattle.kaapi.specs.Answers.{AnswersCheck, AnswersRun, AnswersJob, AnswersCommand, told}

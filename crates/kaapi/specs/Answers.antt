@@ -13,7 +13,7 @@ use Rattle.kt_print.specs.CanonicalText.{canonical_text}
 use Rattle.kt_print.specs.Lines.{line_of}
 use Rattle.kt_print.specs.declared.lines.Line.{Line}
 use Rattle.kt_print.specs.declared.lines.Line.TheVariants as L
-use Rattle.kt_read.specs.Answers.{IsAnswer, IsRefused}
+use Rattle.kt_open.specs.Answers.{IsAnswer, IsRefused}
 use Rattle.kt_read.specs.Jobs.{IsJob}
 use Rattle.kaapi.specs.Exits.{number_of}
 use Rattle.kaapi.specs.declared.exits.Exit.{Exit}

@@ -5,7 +5,7 @@ ghost use Rattle.kt_prog.specs.Objects.{elements_of, inputs_of};
 ghost use Rattle.kt_frames.specs.OnlyTasks.{HasOnlyTasks};
 ghost use Rattle.kt_prog.specs.Outcome.{outcome_of};
 ghost use Rattle.kt_prog.specs.declared.runs.Outcome.TheVariants.{Rows};
-ghost use Rattle.kt_read.specs.Answers.{IsAnswer, answered_run};
+ghost use Rattle.kt_open.specs.Answers.{IsAnswer, answered_run};
 ghost use Rattle.kt_read.specs.Jobs.{IsJob};
 ghost use Rattle.kaapi.specs.Answers.{AnswersAsked, AnswersCheck, AnswersRun, not_built, told};
 ghost use Rattle.kaapi.specs.Exits.{number_of};

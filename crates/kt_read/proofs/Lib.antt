@@ -5,15 +5,6 @@ pub mod OneProgram
 pub mod MoreTokens
 pub mod OneText
 pub mod JobsRead
-pub mod Regrouped
-pub mod Scanned
-pub mod Spelled
-pub mod FineTokens
-pub mod Scanning
-pub mod Fits
-pub mod PrintedExpressions
-pub mod PrintedStatements
-pub mod PrintedPrograms
 pub mod OneRefusal
 pub mod Still
 pub mod Completing
@@ -35,4 +26,3 @@ pub mod ExpressionSteps
 pub mod ArgumentSteps
 pub mod StatementSteps
 pub mod Fronts
-pub mod ReadAgain

@@ -1,11 +1,9 @@
 -- Statements of the laws of the grammar.
-use Rattle.std.specs.Prelude.{◌≡◌, ℕ, ◌-◌, List, [], length}
+use Rattle.std.specs.Prelude.{◌≡◌, ℕ, List, []}
 use Rattle.kt_law.specs.declared.places.Refusal.{Refusal}
 use Rattle.kt_prog.specs.declared.programs.Program.{Program}
 use Rattle.kt_tokens.specs.declared.tokens.Tok.{Tok}
 use Rattle.kt_read.specs.Jobs.{IsJob, IsUnread}
-use Rattle.kt_print.specs.CanonicalText.{canonical_text}
-use Rattle.kt_read.specs.Placeless.{SameButForPlaces}
 use Rattle.kt_read.specs.Programs.{ReadsProgram}
 use Rattle.kt_read.specs.Texts.{IsText}
 
@@ -28,23 +26,3 @@ JobIsRead = (bytes : List ℕ) (p : Program) (from : ℕ) (refusal : Refusal) �
 -- no bytes are refused in two ways
 abbrev pub OneRefusal : Type 0
 OneRefusal = (bytes : List ℕ) (r s : Refusal) → IsUnread bytes r → IsUnread bytes s → r ≡ s
-
--- the canonical text, but for its last line feed, is a text of the same program but for places
-pub record IsTextAgain (p : Program) : Type 0 where
-  pub program : Program
-  pub text : IsText (canonical_text p) program (length (canonical_text p) - 1)
-  pub same : SameButForPlaces p program
-
--- so it is for each program that is read from some text
-abbrev pub CanonicalIsText : Type 0
-CanonicalIsText = (bytes : List ℕ) (p : Program) (from : ℕ) → IsText bytes p from → IsTextAgain p
-
--- the canonical text, but for its last line feed, is a job of the same program but for places
-pub record IsJobAgain (p : Program) : Type 0 where
-  pub program : Program
-  pub job : IsJob (canonical_text p) program (length (canonical_text p) - 1)
-  pub same : SameButForPlaces p program
-
--- so it is for each program that some bytes are a job of
-abbrev pub CanonicalIsRead : Type 0
-CanonicalIsRead = (bytes : List ℕ) (p : Program) (from : ℕ) → IsJob bytes p from → IsJobAgain p

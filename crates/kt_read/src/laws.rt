@@ -1,5 +1,5 @@
 //! Laws of the grammar. The functions do nothing; their contracts are the laws.
-ghost use Rattle.kt_read.specs.Laws.{CanonicalIsRead, CanonicalIsText, JobIsRead, OneJob, OneProgram, OneRefusal, OneText};
+ghost use Rattle.kt_read.specs.Laws.{JobIsRead, OneJob, OneProgram, OneRefusal, OneText};
 
 /// The grammar is unambiguous: the same tokens are read as one program.
 pub fn one_program()
@@ -26,17 +26,6 @@ pub fn one_refusal()
     ensures { OneRefusal }
 {}
 
-/// The canonical text of a program that was read is read as the same program but for places.
-pub fn canonical_is_text()
-    ensures { CanonicalIsText }
-{}
-
-/// The canonical text of a job's program is a job of the same program but for places: it nests no deeper, and none of its
-/// expressions is longer.
-pub fn canonical_is_read()
-    ensures { CanonicalIsRead }
-{}
-
 #[cfg(test)]
 mod tests {
     use super::*;
@@ -48,7 +37,5 @@ mod tests {
         one_job();
         job_is_read();
         one_refusal();
-        canonical_is_text();
-        canonical_is_read();
     }
 }

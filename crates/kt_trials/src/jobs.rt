@@ -3,7 +3,7 @@ ghost use Rattle.std.specs.Prelude.{IfOk};
 ghost use Rattle.kt_prog.specs.Accepted.{IsAccepted};
 
 use kt_prog::Program;
-use kt_read::open_job;
+use kt_open::open_job;
 use std::alloc::Global;
 use std::test::Fail;
 

@@ -1,4 +1,4 @@
-use Rattle.kt_read.specs.Answers.IsRefused.{unread, broken}
+use Rattle.kt_open.specs.Answers.IsRefused.{unread, broken}
 use Rattle.kaapi.proofs.jobs.open.Goals as goal
 
 pub returns-in-Err-Refused : goal.returns-in-Err-Refused

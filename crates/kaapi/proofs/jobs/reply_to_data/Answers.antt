@@ -1,8 +1,8 @@
 use Rattle.std.proofs.Common.{◌≡◌, Err, sym, subst, ap, ◌∙◌, List, ℕ}
 use Rattle.kt_prog.specs.Outcome.{outcome_of}
 use Rattle.kt_print.specs.declared.lines.Line.TheVariants as L
-use Rattle.kt_read.specs.Answers.{IsAnswer, Opens, answered_run}
-use Rattle.kt_read.specs.Answers.{IsAnswer as I, Unopens as U}
+use Rattle.kt_open.specs.Answers.{IsAnswer, Opens, answered_run}
+use Rattle.kt_open.specs.Answers.{IsAnswer as I, Unopens as U}
 use Rattle.kaapi.specs.Answers.{told}
 use Rattle.kaapi.specs.declared.exits.Exit.TheVariants as E
 use Rattle.kaapi.proofs.JobReplies.{answered_by, of_line, ok_then}

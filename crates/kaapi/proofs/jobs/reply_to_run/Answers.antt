@@ -1,7 +1,7 @@
 use Rattle.std.proofs.Common.{◌≡◌, sym, ◌∙◌}
 use Rattle.kt_print.specs.declared.lines.Line.TheVariants as L
-use Rattle.kt_read.specs.Answers.{IsAnswer}
-use Rattle.kt_read.specs.Answers.{IsAnswer as I, Unopens as U}
+use Rattle.kt_open.specs.Answers.{IsAnswer}
+use Rattle.kt_open.specs.Answers.{IsAnswer as I, Unopens as U}
 use Rattle.kaapi.specs.Answers.{told}
 use Rattle.kaapi.specs.Answers.AnswersRun.{mixed, run}
 use Rattle.kaapi.specs.declared.exits.Exit.TheVariants as E

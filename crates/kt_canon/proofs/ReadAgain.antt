@@ -1,5 +1,5 @@
 -- The canonical text of a program that was read is read again.
-use Rattle.std.proofs.Common.{◌≡◌, ℕ, zero, suc, ◌+◌, ◌<◌, ◌≤◌, Bool, true, false, List, [], ◌∷◌, ◌++◌, length, refl, ap, sym, subst, ◌∙◌, append_assoc, arith, nat_le}
+use Rattle.std.proofs.Common.{◌≡◌, ℕ, zero, suc, ◌+◌, ◌-◌, ◌<◌, ◌≤◌, Bool, true, false, List, [], ◌∷◌, ◌++◌, length, refl, ap, sym, subst, ◌∙◌, append_assoc, arith, nat_le}
 use Rattle.std.specs.Prelude.{◌&&◌, ◌||◌, not}
 use Rattle.kt_law.specs.declared.limits.TheConstants.{BRACKETS, EXPRESSION_TOKENS}
 use Rattle.kt_prog.specs.declared.programs.Program.{Program}
@@ -15,13 +15,14 @@ use Rattle.kt_tokens.specs.declared.tokens.Tok.{Tok}
 use Rattle.kt_tokens.specs.Gauge.{ends_span, gauge_after, gauge_behind, is_long, is_opening, is_over, reach_apart, reach_behind, reach_ended, reach_forking, start_gauge, open_behind}
 use Rattle.kt_tokens.specs.Words.{toks_of}
 use Rattle.kt_read.specs.Jobs.{IsJob, IsShallow}
-use Rattle.kt_read.specs.Laws.{IsJobAgain, IsTextAgain}
+use Rattle.kt_canon.specs.Laws.{HasText, IsJobAgain, IsTextAgain, IsWritten}
 use Rattle.kt_read.specs.Programs.{ReadsProgram}
 use Rattle.kt_read.specs.Texts.{IsText}
 use Rattle.kt_read.proofs.Spans.{apart, behind}
 use Rattle.kt_read.proofs.Depths.{AllFit, all_fit, one_fits, fits_shallow, over_is_deep}
-use Rattle.kt_read.proofs.Fits.{Fits, is_not_le, no_sign, or_both, over, too_long}
-use Rattle.kt_read.proofs.PrintedPrograms.{again}
+use Rattle.kt_canon.proofs.Fits.{Fits, is_not_le, no_sign, or_both, over, too_long}
+use Rattle.kt_canon.proofs.PlacelessTexts.{same_text}
+use Rattle.kt_canon.proofs.PrintedPrograms.{Again, again}
 use Rattle.kt_read.proofs.Fronts.{at_front}
 
 -- ---- wide limits
@@ -84,11 +85,20 @@ wide B E g (t ∷ toks) h k =
       wide B E (behind g t.symbol) toks (omega (arith, open_few g.brackets t.symbol)) (omega (arith, reach_few g.brackets g.reach t.symbol)),
     )
 
-pub canonical_is_text : (bytes : List ℕ) (p : Program) (from : ℕ) → IsText bytes p from → IsTextAgain p
-canonical_is_text bytes p from t =
+text_read : (bytes : List ℕ) (p : Program) (from : ℕ) (behind : List ℕ) → IsText bytes p from → IsTextAgain p behind
+text_read bytes p from behind t =
     let toks : List Tok = toks_of bytes t.tokens in
     let most : ℕ = suc (length toks) in
-    (again most most bytes p from t (wide most most (apart 0) toks (omega arith) (omega arith))).text
+    (again most most bytes p from behind t (wide most most (apart 0) toks (omega arith) (omega arith))).text
+
+pub canonical_is_text : (p : Program) (behind : List ℕ) → HasText p → IsTextAgain p behind
+canonical_is_text p behind h =
+    let a = text_read h.bytes h.program h.from behind h.text in
+    record {
+      program = a.program;
+      text = subst (λ (text : List ℕ). IsText (text ++ behind) a.program (length text - 1)) (sym (same_text p h.program h.same)) a.text;
+      same = h.same ∙ a.same;
+    }
 
 -- ---- the limits of jobs
 
@@ -134,13 +144,27 @@ fits_behind p all front (t ∷ rest) r shallow is f =
     let more = fits_behind p all (front ++ t ∷ []) rest r shallow (is ∙ sym (append_assoc front (t ∷ []) rest)) (fit_more t f fit) in
     (same_over g t.symbol ∙ fit, subst (λ (g : Gauge). Fits BRACKETS EXPRESSION_TOKENS g rest) (after_more front t start_gauge ∙ same_behind g t.symbol) more)
 
-pub canonical_is_read : (bytes : List ℕ) (p : Program) (from : ℕ) → IsJob bytes p from → IsJobAgain p
-canonical_is_read bytes p from job =
+pub job_again : (p : Program) (behind : List ℕ) → Again BRACKETS EXPRESSION_TOKENS p behind → IsJobAgain p behind
+job_again p behind a = record {
+  program = a.text.program;
+  job = record {
+    text = a.text.text;
+    shallow = fits_shallow (all_fit_from (apart 0) (toks_of (canonical_text p ++ behind) a.text.text.tokens) a.fits);
+  };
+  same = a.text.same;
+}
+
+job_read : (bytes : List ℕ) (p : Program) (from : ℕ) (behind : List ℕ) → IsJob bytes p from → IsJobAgain p behind
+job_read bytes p from behind job =
     let toks : List Tok = toks_of bytes job.text.tokens in
     let fits = fits_behind p toks [] toks job.text.derived job.shallow refl all_fit in
-    let a = again BRACKETS EXPRESSION_TOKENS bytes p from job.text fits in
+    job_again p behind (again BRACKETS EXPRESSION_TOKENS bytes p from behind job.text fits)
+
+pub canonical_is_read : (p : Program) (behind : List ℕ) → IsWritten p → IsJobAgain p behind
+canonical_is_read p behind h =
+    let a = job_read h.bytes h.program h.from behind h.job in
     record {
-      program = a.text.program;
-      job = record { text = a.text.text; shallow = fits_shallow (all_fit_from (apart 0) (toks_of (canonical_text p) a.text.text.tokens) a.fits) };
-      same = a.text.same;
+      program = a.program;
+      job = subst (λ (text : List ℕ). IsJob (text ++ behind) a.program (length text - 1)) (sym (same_text p h.program h.same)) a.job;
+      same = h.same ∙ a.same;
     }

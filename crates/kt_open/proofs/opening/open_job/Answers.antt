@@ -1,8 +1,8 @@
 use Rattle.std.proofs.Common.{Err, refl, ap, ◌∙◌}
-use Rattle.kt_read.specs.Answers.{Opens}
-use Rattle.kt_read.specs.Answers.IsRefused.{unread, broken}
-use Rattle.kt_read.specs.Answers.Unopens.{refused, bad_number, too_few, too_many}
-use Rattle.kt_read.proofs.opening.open_job.Goals as goal
+use Rattle.kt_open.specs.Answers.{Opens}
+use Rattle.kt_open.specs.Answers.IsRefused.{unread, broken}
+use Rattle.kt_open.specs.Answers.Unopens.{refused, bad_number, too_few, too_many}
+use Rattle.kt_open.proofs.opening.open_job.Goals as goal
 
 pub returns-in-Err-Refused-clause-unopened : goal.returns-in-Err-Refused-clause-unopened
 returns-in-Err-Refused-clause-unopened c =

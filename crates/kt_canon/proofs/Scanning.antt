@@ -19,9 +19,9 @@ use Rattle.kt_tokens.specs.declared.tokens.Tok.{Tok}
 use Rattle.kt_tokens.specs.Tokens.{◌·◌, named, numbered}
 use Rattle.kt_tokens.specs.Words.{mark_in, mark_or, punctuation, reserved, symbol_of}
 use Rattle.kt_read.specs.Operators.{op_of}
-use Rattle.kt_read.proofs.Scanned.{Scans, blank, token, where_at}
-use Rattle.kt_read.proofs.Spelled.{IsLoneSign, IsWordText, NoWord, decimal_writes, lone_lexeme, number_begins, number_lexeme, word_begins, word_lexeme}
-use Rattle.kt_read.proofs.FineTokens.{IsFreeWord}
+use Rattle.kt_canon.proofs.Scanned.{Scans, blank, token, where_at}
+use Rattle.kt_canon.proofs.Spelled.{IsLoneSign, IsWordText, NoWord, decimal_writes, lone_lexeme, number_begins, number_lexeme, word_begins, word_lexeme}
+use Rattle.kt_canon.proofs.FineTokens.{IsFreeWord}
 
 -- ---- in general
 

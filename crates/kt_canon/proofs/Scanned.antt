@@ -1,5 +1,5 @@
 -- A text as tokens that stand one after another in it, with blanks between them.
-use Rattle.kt_read.proofs.Regrouped.{take_front}
+use Rattle.kt_canon.proofs.Regrouped.{take_front}
 use Rattle.std.proofs.Common.{◌≡◌, ℕ, ◌+◌, ◌-◌, true, false, List, [], ◌∷◌, ◌++◌, length, take, drop, refl, ap, sym, subst, ◌∙◌, append_assoc, arith, Ok}
 use Rattle.std.proofs.lemmas.List.{length-append}
 use Rattle.std.proofs.Math.Seq.{drop-append_seam}

@@ -1,6 +1,7 @@
 -- The canonical text of a program is read as it, but for places.
-use Rattle.kt_read.proofs.Regrouped.{three_parts, four_parts, one_text, three_of}
+use Rattle.kt_canon.proofs.Regrouped.{three_parts, four_parts, one_text, three_of}
 use Rattle.std.proofs.Common.{◌≡◌, ℕ, ◌-◌, ◌<◌, ◌^◌, Bool, true, false, List, [], ◌∷◌, ◌++◌, codes, length, map, Some, None, refl, ap, sym, subst, append_assoc, arith, nat_le}
+use Rattle.std.proofs.lemmas.List.{length-append}
 use Rattle.std.specs.Fmt.{decimal}
 use Rattle.std.specs.List.{flat_map}
 use Rattle.kt_law.specs.declared.modes.Mode.{Mode}
@@ -22,19 +23,19 @@ use Rattle.kt_print.specs.CanonicalWords.{op_word as op_text}
 use Rattle.kt_tokens.specs.declared.tokens.Tok.{Tok}
 use Rattle.kt_tokens.specs.Words.{reserved, toks_of}
 use Rattle.kt_read.specs.Operators.{direct_modes, direct_of, postponed_modes, postponed_of}
-use Rattle.kt_read.specs.Placeless.{nowhere, placeless_family, placeless_main, placeless_param, placeless_stmt, placeless_task}
+use Rattle.kt_canon.specs.Placeless.{nowhere, placeless_family, placeless_main, placeless_param, placeless_stmt, placeless_task}
 use Rattle.kt_read.specs.Programs.{ReadsSize, single, range, ReadsFamily, family, ReadsDirect, direct, cumulative, ReadsPostponed, postponed, postponed_cumulative, ReadsParam, int, one_direct, one_postponed, many_postponed, ReadsParams, one_param, more_params, ReadsMaybeParams, no_params, some_params, ReadsTask, task, loop, ReadsMain, main, ReadsProgram, data_word as data_end, one_family, one_task, one_main, ReadsMaybe, left_out, written}
 use Rattle.kt_read.specs.Statements.{ReadsBlock, block, op_word}
 use Rattle.kt_read.specs.Texts.{IsText}
-use Rattle.kt_read.specs.Laws.{IsTextAgain}
-use Rattle.kt_read.proofs.Scanned.{Scans, blank, done, lexes}
-use Rattle.kt_read.proofs.Spelled.{NoWord}
-use Rattle.kt_read.proofs.FineTokens.{AreFine, IsFreeWord, lexed_fine}
-use Rattle.kt_read.proofs.Scanning.{a_name, a_number, brace_open, comma, data_word, free_word, loop_word, main_word, object_word, op_free, op_is, paren_close, paren_open, semicolon, square_close, square_open, task_word}
+use Rattle.kt_canon.specs.Laws.{IsTextAgain}
+use Rattle.kt_canon.proofs.Scanned.{Scans, blank, done, lexes}
+use Rattle.kt_canon.proofs.Spelled.{NoWord}
+use Rattle.kt_canon.proofs.FineTokens.{AreFine, IsFreeWord, lexed_fine}
+use Rattle.kt_canon.proofs.Scanning.{a_name, a_number, brace_open, comma, data_word, free_word, loop_word, main_word, object_word, op_free, op_is, paren_close, paren_open, semicolon, square_close, square_open, task_word}
 use Rattle.kt_read.proofs.Spans.{apart}
-use Rattle.kt_read.proofs.Fits.{Calm, Fits, MayOpen, may_open}
-use Rattle.kt_read.proofs.PrintedExpressions.{Each, entry_each, Back, Prints, PrintsLines, at_text}
-use Rattle.kt_read.proofs.PrintedStatements.{Behind, BlockPrinted, closed, stmts_fine}
+use Rattle.kt_canon.proofs.Fits.{Calm, Fits, MayOpen, may_open}
+use Rattle.kt_canon.proofs.PrintedExpressions.{Each, entry_each, Back, Prints, PrintsLines, at_text}
+use Rattle.kt_canon.proofs.PrintedStatements.{Behind, BlockPrinted, closed, stmts_fine}
 use Rattle.kt_read.proofs.Fronts.{at_front}
 
 module _ (B E : ℕ) where
@@ -61,13 +62,13 @@ module _ (B E : ℕ) where
   abbrev members : Bool → ℕ → List ℕ
   members many m = where_set many (codes "[" ++ (decimal m ++ codes "]"))
 
-  record SizePrinted (many : Bool) (m : ℕ) : Type 0 where
+  pub record SizePrinted (many : Bool) (m : ℕ) : Type 0 where
     prints : Prints reads_size same_thing (many, m) (members many m)
 
-  single_printed : SizePrinted false 1
+  pub single_printed : SizePrinted false 1
   single_printed = record { prints = λ bytes after rest u us ends s. record { first = u; more = us; thing = (false, 1); scans = s; reads = (single, record { steps = λ h. h }); same = refl } }
 
-  range_printed : (m : ℕ) → m < 2 ^ 64 → MayOpen B E 0 → nat_le E 0 ≡ false → SizePrinted true m
+  pub range_printed : (m : ℕ) → m < 2 ^ 64 → MayOpen B E 0 → nat_le E 0 ≡ false → SizePrinted true m
   range_printed m small o few = record {
     prints = λ bytes after rest u us ends s.
         at_text (three_parts (codes "[") (decimal m) (codes "]") after)
@@ -88,7 +89,7 @@ module _ (B E : ℕ) where
   abbrev reads_family : Family → List Tok → List Tok → Type 0
   reads_family y ts us = ReadsFamily y ts us × Calm B E 0 ts us
 
-  record FamilyPrinted (f : Family) : Type 0 where
+  pub record FamilyPrinted (f : Family) : Type 0 where
     prints : PrintsLines reads_family placeless_family f (family_text f)
 
   of_free : IsFreeWord (codes "of")
@@ -106,7 +107,7 @@ module _ (B E : ℕ) where
   family_parts : (a b c d e f g h k z : List ℕ) → a ++ (b ++ (c ++ (d ++ (e ++ (f ++ (g ++ (h ++ (k ++ z)))))))) ≡ ((a ++ (b ++ (c ++ (d ++ (e ++ (f ++ (g ++ h))))))) ++ k) ++ z
   family_parts a b c d e f g h k z = simp append_assoc refl
 
-  family_printed : (n : List ℕ) (p : Place) (many input output : Bool) (m k : ℕ) → IsFreeWord n → k < 2 ^ 64 → SizePrinted many m →
+  pub family_printed : (n : List ℕ) (p : Place) (many input output : Bool) (m k : ℕ) → IsFreeWord n → k < 2 ^ 64 → SizePrinted many m →
       FamilyPrinted (record { name = n; place = p; many = many; members = m; elements = k; input = input; output = output })
   family_printed n p many input output m k w small size = record {
     prints = λ bytes after rest u us s.
@@ -166,10 +167,10 @@ module _ (B E : ℕ) where
   abbrev reads_postponed : Mode → List Tok → List Tok → Type 0
   reads_postponed y ts us = ReadsPostponed y ts us × Calm B E 1 ts us
 
-  record DirectPrinted (mode : Mode) : Type 0 where
+  pub record DirectPrinted (mode : Mode) : Type 0 where
     prints : Prints reads_direct same_thing mode (mode_text mode)
 
-  record PostponedPrinted (mode : Mode) : Type 0 where
+  pub record PostponedPrinted (mode : Mode) : Type 0 where
     prints : Prints reads_postponed same_thing mode (mode_text mode)
 
   a_direct : (word : List ℕ) (mode : Mode) → IsFreeWord word → direct_of word ≡ Some mode → mode_text mode ≡ word → DirectPrinted mode
@@ -184,7 +185,7 @@ module _ (B E : ℕ) where
         at_text (ap (λ (t : List ℕ). t ++ after) (sym text)) (record { first = _; more = u ∷ us; thing = mode; scans = a_name word w ends s; reads = (postponed is, record { steps = λ h. (refl, h) }); same = refl });
   }
 
-  plain_direct : (mode : Mode) → IsPlainDirect mode → DirectPrinted mode
+  pub plain_direct : (mode : Mode) → IsPlainDirect mode → DirectPrinted mode
   unfolding reserved direct_of
   plain_direct M.R h = a_direct (codes "r") M.R (free_word (codes "r") refl refl) refl refl
   plain_direct M.W h = a_direct (codes "w") M.W (free_word (codes "w") refl refl) refl refl
@@ -214,7 +215,7 @@ module _ (B E : ℕ) where
   unfolding reserved
   cwp_free = free_word (codes "cwp") refl refl
 
-  cw_printed : (op : Op) → MayOpen B E 1 → DirectPrinted (M.Cw op)
+  pub cw_printed : (op : Op) → MayOpen B E 1 → DirectPrinted (M.Cw op)
   cw_printed op o = record {
     prints = λ bytes after rest u us ends s.
         at_text (three_parts (codes "cw(") (op_text op) (codes ")") after)
@@ -258,17 +259,17 @@ module _ (B E : ℕ) where
   abbrev reads_params : List Param → List Tok → List Tok → Type 0
   reads_params y ts us = ReadsParams y ts us × Calm B E 1 ts us
 
-  record ParamPrinted (a : Param) : Type 0 where
+  pub record ParamPrinted (a : Param) : Type 0 where
     prints : Prints reads_param placeless_param a (param_text a)
 
-  record ParamsPrinted (params : List Param) : Type 0 where
+  pub record ParamsPrinted (params : List Param) : Type 0 where
     prints : Prints reads_params (map placeless_param) params (params_text [] params)
 
   int_free : IsFreeWord (codes "int")
   unfolding reserved
   int_free = free_word (codes "int") refl refl
 
-  int_printed : (n : List ℕ) (p q : Place) → IsFreeWord n → ParamPrinted (record { place = p; name = n; name_place = q; sort = Int })
+  pub int_printed : (n : List ℕ) (p q : Place) → IsFreeWord n → ParamPrinted (record { place = p; name = n; name_place = q; sort = Int })
   int_printed n p q w = record {
     prints = λ bytes after rest u us ends s.
         record {
@@ -281,7 +282,7 @@ module _ (B E : ℕ) where
         };
   }
 
-  direct_printed : (n : List ℕ) (p q : Place) (mode : Mode) → IsFreeWord n → DirectPrinted mode → ParamPrinted (record { place = p; name = n; name_place = q; sort = One mode })
+  pub direct_printed : (n : List ℕ) (p q : Place) (mode : Mode) → IsFreeWord n → DirectPrinted mode → ParamPrinted (record { place = p; name = n; name_place = q; sort = One mode })
   direct_printed n p q mode w d = record {
     prints = λ bytes after rest u us ends s.
         let x = d.prints bytes (codes " " ++ (n ++ after)) rest _ (u ∷ us) refl (blank refl refl (a_name n w ends s)) in
@@ -340,7 +341,7 @@ module _ (B E : ℕ) where
   led lead (one_param r) = refl
   led lead (more_params r rs) = refl
 
-  one_printed : (a : Param) → ParamPrinted a → ParamsPrinted (a ∷ [])
+  pub one_printed : (a : Param) → ParamPrinted a → ParamsPrinted (a ∷ [])
   one_printed a p = record {
     prints = λ bytes after rest u us ends s.
         let b = p.prints bytes after rest u us ends s in
@@ -348,7 +349,7 @@ module _ (B E : ℕ) where
         (record { first = b.first; more = b.more; thing = b.thing ∷ []; scans = b.scans; reads = (one_param b.reads.0, b.reads.1); same = ap (λ (x : Param). x ∷ []) b.same });
   }
 
-  more_printed : (a : Param) (params : List Param) → params_text (codes ", ") params ≡ codes ", " ++ params_text [] params → ParamPrinted a → ParamsPrinted params → ParamsPrinted (a ∷ params)
+  pub more_printed : (a : Param) (params : List Param) → params_text (codes ", ") params ≡ codes ", " ++ params_text [] params → ParamPrinted a → ParamsPrinted params → ParamsPrinted (a ∷ params)
   more_printed a params lead p ps = record {
     prints = λ bytes after rest u us ends s.
         let y = ps.prints bytes after rest u us ends s in
@@ -366,17 +367,17 @@ module _ (B E : ℕ) where
   reads_maybe_params y ts us = ReadsMaybeParams y ts us × Calm B E 1 ts us
 
   -- parameters that may be missing, behind nothing or a blank
-  record MaybePrinted (params : List Param) : Type 0 where
+  pub record MaybePrinted (params : List Param) : Type 0 where
     plain : Prints reads_maybe_params (map placeless_param) params (params_text [] params)
     spaced : Prints reads_maybe_params (map placeless_param) params (params_text (codes " ") params)
 
-  none_printed : MaybePrinted []
+  pub none_printed : MaybePrinted []
   none_printed = record {
     plain = λ bytes after rest u us ends s. record { first = u; more = us; thing = []; scans = s; reads = (no_params, record { steps = λ h. h }); same = refl };
     spaced = λ bytes after rest u us ends s. record { first = u; more = us; thing = []; scans = s; reads = (no_params, record { steps = λ h. h }); same = refl };
   }
 
-  some_printed : (params : List Param) → params_text (codes " ") params ≡ codes " " ++ params_text [] params → ParamsPrinted params → MaybePrinted params
+  pub some_printed : (params : List Param) → params_text (codes " ") params ≡ codes " " ++ params_text [] params → ParamsPrinted params → MaybePrinted params
   some_printed params lead p = record {
     plain = λ bytes after rest u us ends s.
         let b = p.prints bytes after rest u us ends s in
@@ -402,10 +403,10 @@ module _ (B E : ℕ) where
   abbrev reads_block : List Stmt → List Tok → List Tok → Type 0
   reads_block y ts us = ReadsBlock y ts us × Calm B E 0 ts us
 
-  record TaskPrinted (t : Task) : Type 0 where
+  pub record TaskPrinted (t : Task) : Type 0 where
     prints : PrintsLines reads_task placeless_task t (task_text t)
 
-  record MainPrinted (m : Main) : Type 0 where
+  pub record MainPrinted (m : Main) : Type 0 where
     prints : PrintsLines reads_main placeless_main m (main_text m)
 
   -- the blocks of a body
@@ -419,7 +420,7 @@ module _ (B E : ℕ) where
       ≡ (((((a ++ (b ++ (c ++ d))) ++ e) ++ f) ++ g) ++ (h ++ k)) ++ z
   task_parts a b c d e f g h k z = simp append_assoc refl
 
-  task_printed : (n : List ℕ) (p : Place) (params : List Param) (body : List Stmt) → IsFreeWord n → MayOpen B E 0 → MaybePrinted params → BlockPrinted B E 1 body →
+  pub task_printed : (n : List ℕ) (p : Place) (params : List Param) (body : List Stmt) → IsFreeWord n → MayOpen B E 0 → MaybePrinted params → BlockPrinted B E 1 body →
       TaskPrinted (record { name = n; place = p; index = None; params = params; body = body })
   task_printed n p params body w o pp pb = record {
     prints = λ bytes after rest u us s.
@@ -445,7 +446,7 @@ module _ (B E : ℕ) where
   no_word_params [] rest ends = ends
   no_word_params (a ∷ params) rest ends = refl
 
-  loop_printed : (n i : List ℕ) (p q : Place) (params : List Param) (body : List Stmt) → IsFreeWord n → IsFreeWord i → MayOpen B E 0 → MaybePrinted params → BlockPrinted B E 1 body →
+  pub loop_printed : (n i : List ℕ) (p q : Place) (params : List Param) (body : List Stmt) → IsFreeWord n → IsFreeWord i → MayOpen B E 0 → MaybePrinted params → BlockPrinted B E 1 body →
       TaskPrinted (record { name = n; place = p; index = Some (record { name = i; place = q }); params = params; body = body })
   loop_printed n i p q params body w v o pp pb = record {
     prints = λ bytes after rest u us s.
@@ -466,7 +467,7 @@ module _ (B E : ℕ) where
   main_parts : (a f g h k z : List ℕ) → a ++ (f ++ (g ++ (h ++ (k ++ z)))) ≡ (((a ++ f) ++ g) ++ (h ++ k)) ++ z
   main_parts a f g h k z = simp append_assoc refl
 
-  main_printed : (p : Place) (body : List Stmt) → MayOpen B E 0 → BlockPrinted B E 1 body → MainPrinted (record { place = p; body = body })
+  pub main_printed : (p : Place) (body : List Stmt) → MayOpen B E 0 → BlockPrinted B E 1 body → MainPrinted (record { place = p; body = body })
   main_printed p body o pb = record {
     prints = λ bytes after rest u us s.
         let inner : List ℕ = block_text (map text_of_stmt body) 0 in
@@ -499,10 +500,10 @@ module _ (B E : ℕ) where
 
   -- ---- programs
 
-  record ProgramPrinted (p : Program) : Type 0 where
-    families : Each FamilyPrinted p.families
-    tasks : Each TaskPrinted p.tasks
-    mains : Each MainPrinted p.mains
+  pub record ProgramPrinted (p : Program) : Type 0 where
+    pub families : Each FamilyPrinted p.families
+    pub tasks : Each TaskPrinted p.tasks
+    pub mains : Each MainPrinted p.mains
 
   program_fine : {p : Program} {ts us : List Tok} → ReadsProgram p ts us → AreFine ts → Fits B E (apart 0) ts → ProgramPrinted p
   program_fine data_end f fits = record { families = tt; tasks = tt; mains = tt }
@@ -525,8 +526,8 @@ module _ (B E : ℕ) where
     same_tasks : map placeless_task tasks ≡ map placeless_task program.tasks
     same_mains : map placeless_main mains ≡ map placeless_main program.mains
 
-  data_back : (bytes : List ℕ) → ProgramBack [] [] [] bytes (codes "data\n") (codes "\n")
-  data_back bytes = record {
+  data_back : (bytes behind : List ℕ) → ProgramBack [] [] [] bytes (codes "data\n" ++ behind) (codes "\n" ++ behind)
+  data_back bytes behind = record {
     first = _;
     more = [];
     program = record { families = []; tasks = []; mains = []; end = _ };
@@ -592,24 +593,33 @@ module _ (B E : ℕ) where
         same_mains = y.same_mains;
       }
 
-  program_back : (p : Program) → ProgramPrinted p → ProgramBack p.families p.tasks p.mains (canonical_text p) (canonical_text p) (codes "\n")
-  program_back p ps =
-      let bytes : List ℕ = canonical_text p in
-      families_back bytes (flat_map task_text p.tasks ++ (flat_map main_text p.mains ++ codes "data\n")) (codes "\n") p.families p.tasks p.mains ps.families
-      (tasks_back bytes (flat_map main_text p.mains ++ codes "data\n") (codes "\n") p.tasks p.mains ps.tasks
-      (mains_back bytes (codes "data\n") (codes "\n") p.mains ps.mains (data_back bytes)))
+  -- the canonical text before other bytes, by its lists of declarations
+  before : (f t m d behind : List ℕ) → f ++ (t ++ (m ++ (d ++ behind))) ≡ (f ++ (t ++ (m ++ d))) ++ behind
+  before f t m d behind = simp append_assoc refl
 
-  -- the canonical text is a text of the same program but for places, and its tokens fit
-  pub record Again (p : Program) : Type 0 where
-    pub text : IsTextAgain p
-    pub fits : Fits B E (apart 0) (toks_of (canonical_text p) text.text.tokens)
+  program_back : (p : Program) (behind : List ℕ) → ProgramPrinted p →
+      ProgramBack p.families p.tasks p.mains (canonical_text p ++ behind) (canonical_text p ++ behind) (codes "\n" ++ behind)
+  program_back p behind ps =
+      let bytes : List ℕ = canonical_text p ++ behind in
+      let ends : List ℕ = codes "data\n" ++ behind in
+      let rest : List ℕ = codes "\n" ++ behind in
+      let back = families_back bytes (flat_map task_text p.tasks ++ (flat_map main_text p.mains ++ ends)) rest p.families p.tasks p.mains ps.families
+      (tasks_back bytes (flat_map main_text p.mains ++ ends) rest p.tasks p.mains ps.tasks
+      (mains_back bytes ends rest p.mains ps.mains (data_back bytes behind))) in
+      subst (λ (text : List ℕ). ProgramBack p.families p.tasks p.mains bytes text rest)
+      (before (flat_map family_text p.families) (flat_map task_text p.tasks) (flat_map main_text p.mains) (codes "data\n") behind) back
 
-  text_again : (p : Program) → ProgramPrinted p → Again p
-  text_again p ps =
-      let bytes : List ℕ = canonical_text p in
-      let b = program_back p ps in
-      let l = lexes bytes [] bytes (codes "\n") (b.first ∷ b.more) refl b.scans in
-      let stop : l.stop ≡ length (canonical_text p) - 1 = omega (arith, l.left) in
+  -- the canonical text is a text of the same program but for places, whatever stands behind it, and its tokens fit
+  pub record Again (p : Program) (behind : List ℕ) : Type 0 where
+    pub text : IsTextAgain p behind
+    pub fits : Fits B E (apart 0) (toks_of (canonical_text p ++ behind) text.text.tokens)
+
+  pub text_again : (p : Program) (behind : List ℕ) → ProgramPrinted p → Again p behind
+  text_again p behind ps =
+      let bytes : List ℕ = canonical_text p ++ behind in
+      let b = program_back p behind ps in
+      let l = lexes bytes [] bytes (codes "\n" ++ behind) (b.first ∷ b.more) refl b.scans in
+      let stop : l.stop ≡ length (canonical_text p) - 1 = omega (arith, l.left, length-append (canonical_text p) behind) in
       record {
         text = record {
           program = b.program;
@@ -623,5 +633,5 @@ module _ (B E : ℕ) where
         fits = subst (λ (toks : List Tok). Fits B E (apart 0) toks) (sym l.are) b.fits;
       }
 
-  pub again : (bytes : List ℕ) (p : Program) (from : ℕ) (t : IsText bytes p from) → Fits B E (apart 0) (toks_of bytes t.tokens) → Again p
-  again bytes p from t fits = text_again p (program_fine t.derived (lexed_fine bytes 0 from t.tokens t.lexed) fits)
+  pub again : (bytes : List ℕ) (p : Program) (from : ℕ) (behind : List ℕ) (t : IsText bytes p from) → Fits B E (apart 0) (toks_of bytes t.tokens) → Again p behind
+  again bytes p from behind t fits = text_again p behind (program_fine t.derived (lexed_fine bytes 0 from t.tokens t.lexed) fits)

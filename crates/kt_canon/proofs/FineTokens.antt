@@ -22,7 +22,7 @@ use Rattle.kt_tokens.specs.declared.tokens.Symbol.{Symbol}
 use Rattle.kt_tokens.specs.declared.tokens.Symbol.TheVariants as S
 use Rattle.kt_tokens.specs.declared.tokens.Tok.{Tok}
 use Rattle.kt_tokens.specs.Words.{mark_in, mark_or, operators, punctuation, reserved, symbol_of, toks_of}
-use Rattle.kt_read.proofs.Spelled.{IsWordText}
+use Rattle.kt_canon.proofs.Spelled.{IsWordText}
 
 -- a word that may be a name
 pub record IsFreeWord (word : List ℕ) : Type 0 where

@@ -1,13 +1,13 @@
 // A job is opened: its program is read and checked, and its data are read.
 ghost use Rattle.std.specs.Prelude.{◌≡◌, ◌<◌, length, IfErr, IfOk};
-ghost use Rattle.kt_read.specs.Answers.{Opened};
-ghost use Rattle.kt_read.specs.Unopened.{IsUnopened};
+ghost use Rattle.kt_open.specs.Answers.{Opened};
+ghost use Rattle.kt_open.specs.Unopened.{IsUnopened};
 
-use crate::reader::{ReadRefusal, read_program};
 use kt_check::{CheckRefusal, check_indexed};
 use kt_print::Line;
 use kt_prog::laws::few_objects;
 use kt_prog::{Program, inputs};
+use kt_read::{ReadRefusal, read_program};
 use kt_text::{DataError, read_data};
 use std::alloc::Global;
 

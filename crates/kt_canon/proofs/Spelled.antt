@@ -1,5 +1,5 @@
 -- How a lexer finds words, numbers and signs at the front of a text.
-use Rattle.kt_read.proofs.Regrouped.{take_front}
+use Rattle.kt_canon.proofs.Regrouped.{take_front}
 use Rattle.std.proofs.Common.{◌≡◌, ℕ, suc, ◌+◌, ◌*◌, ◌-◌, ◌/◌, ◌%◌, ◌<◌, ◌≤◌, ◌^◌, Bool, true, false, List, [], ◌∷◌, ◌++◌, length, codes, refl, ap, sym, subst, ◌∙◌, arith, Ok, slice_index, nat_lt, nat_le}
 use Rattle.std.specs.Prelude.{◌||◌, ◌&&◌, ◌==◌}
 use Rattle.std.specs.Char.{is_ascii_digit}
@@ -32,7 +32,7 @@ both : (x y : Bool) → (x && y) ≡ true → (x ≡ true) × (y ≡ true)
 both true y h = (refl, h)
 both false y h = absurd cc
 
-all_head : (p : ℕ → Bool) (b : ℕ) (bs : List ℕ) → list_all p (b ∷ bs) ≡ true → (p b ≡ true) × (list_all p bs ≡ true)
+pub all_head : (p : ℕ → Bool) (b : ℕ) (bs : List ℕ) → list_all p (b ∷ bs) ≡ true → (p b ≡ true) × (list_all p bs ≡ true)
 all_head p b bs h = both (p b) (list_all p bs) h
 
 -- ---- words
@@ -55,7 +55,7 @@ digit_no_letter : (b : ℕ) → is_ascii_digit b ≡ true → is_letter b ≡ fa
 digit_no_letter b h = grind (arith, nat_tests)
 
 -- so many pass as the text has, where the rest begins with none that passes
-prefix_all : (p : ℕ → Bool) (text : List ℕ) (b : ℕ) (rest : List ℕ) → list_all p text ≡ true → p b ≡ false → prefix_len p (text ++ b ∷ rest) ≡ length text
+pub prefix_all : (p : ℕ → Bool) (text : List ℕ) (b : ℕ) (rest : List ℕ) → list_all p text ≡ true → p b ≡ false → prefix_len p (text ++ b ∷ rest) ≡ length text
 prefix_all p [] b rest h stops = prefix_stops p b rest stops
 prefix_all p (c ∷ text) b rest h stops =
     let parts = all_head p c text h in prefix_more p c (text ++ b ∷ rest) (length text) parts.0 (prefix_all p text b rest parts.1 stops)

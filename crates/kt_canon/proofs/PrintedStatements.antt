@@ -1,5 +1,5 @@
 -- The printed text of statements is read as they, but for places.
-use Rattle.kt_read.proofs.Regrouped.{one_text, three_of, three_parts}
+use Rattle.kt_canon.proofs.Regrouped.{one_text, three_of, three_parts}
 use Rattle.std.proofs.Common.{◌≡◌, ℕ, ◌+◌, List, [], ◌∷◌, ◌++◌, codes, map, Option, Some, None, refl, ap, sym, subst, ◌∙◌, append_assoc, Bool, true, false, arith, suc, ◌≤◌, max}
 use Rattle.kt_law.specs.declared.operators.Op.{Op}
 use Rattle.kt_law.specs.declared.places.Place.{Place}
@@ -10,6 +10,7 @@ use Rattle.kt_prog.specs.declared.programs.Stmt.{Stmt, fold_out-Stmt}
 use Rattle.kt_prog.specs.declared.programs.What.{What, Let, Set, Store, Fold, If, For, Fork, fold-roll-What}
 use Rattle.kt_prog.specs.declared.programs.What.TheVariants as W
 use Rattle.kt_prog.specs.declared.programs.What.TheOpen as F
+use Rattle.kt_print.proofs.Forms.{fold_text, for_text, fork_text, if_text, let_text, set_text, stmt_text, store_text}
 use Rattle.kt_print.specs.CanonicalExpressions.{expr_text}
 use Rattle.kt_print.specs.CanonicalStatements.{StmtText, stmt_layer as text_layer, argument_text, arguments_text, block_text, element_text, else_text, forked_text, span_text, text_of_stmt, text_of_what, what_text}
 use Rattle.kt_print.specs.CanonicalWords.{blanks, line, op_word as op_text}
@@ -17,16 +18,16 @@ use Rattle.kt_tokens.specs.declared.tokens.Mark.TheVariants as T
 use Rattle.kt_tokens.specs.declared.tokens.Tok.{Tok}
 use Rattle.kt_tokens.specs.Tokens.{◌·◌, named}
 use Rattle.kt_tokens.specs.Words.{punctuation}
-use Rattle.kt_read.specs.Placeless.{nowhere, placeless_arg, placeless_expr, placeless_length, placeless_stmt, placeless_what, stmt_layer, what_layer}
+use Rattle.kt_canon.specs.Placeless.{nowhere, placeless_arg, placeless_expr, placeless_length, placeless_stmt, placeless_what, stmt_layer, what_layer}
 use Rattle.kt_read.specs.Statements.{op_word, ReadsArg, value, span, ReadsArgs, one_arg, more_args, no_args, some_args, ReadsForked, without_length, with_length, block, ReadsStmts, no_stmt, one_stmt, ReadsElse, no_else, else_block, ReadsStmt, let_stmt, set_stmt, store_stmt, fold_stmt, if_stmt, for_stmt, fork_stmt}
-use Rattle.kt_read.proofs.Scanned.{Scans, blank, where_at}
-use Rattle.kt_read.proofs.FineTokens.{AreFine, IsFreeWord}
-use Rattle.kt_read.proofs.Scanning.{a_name, brace_close, brace_open, comma, dots, else_word, for_word, fork_word, if_word, in_word, indented, let_word, op_free, op_is, paren_close, paren_open, semicolon, sign_and_blank, square_close, square_open}
+use Rattle.kt_canon.proofs.Scanned.{Scans, blank, where_at}
+use Rattle.kt_canon.proofs.FineTokens.{AreFine, IsFreeWord}
+use Rattle.kt_canon.proofs.Scanning.{a_name, brace_close, brace_open, comma, dots, else_word, for_word, fork_word, if_word, in_word, indented, let_word, op_free, op_is, paren_close, paren_open, semicolon, sign_and_blank, square_close, square_open}
 use Rattle.kt_print.specs.declared.printing.operators.Level.TheVariants.{Comparison}
 use Rattle.kt_read.specs.Expressions.{ReadsExpr}
 use Rattle.kt_read.proofs.Spans.{apart, within}
-use Rattle.kt_read.proofs.Fits.{Calm, Fits, Goes, MayOpen, goes, leaves, closed_one, dots_one, inner_plain, left, may_open, opened_one, span_slots}
-use Rattle.kt_read.proofs.PrintedExpressions.{ExprFine, mapped, plain_name, IsPrinted, Prints, PrintsLines, as_expr, at_text, expr_fine}
+use Rattle.kt_canon.proofs.Fits.{Calm, Fits, Goes, MayOpen, goes, leaves, closed_one, dots_one, inner_plain, left, may_open, opened_one, span_slots}
+use Rattle.kt_canon.proofs.PrintedExpressions.{ExprFine, mapped, plain_name, IsPrinted, Prints, PrintsLines, as_expr, at_text, expr_fine}
 
 pub becomes : {bytes text rest : List ℕ} {t : Tok} {ts : List Tok} → Scans bytes text (t ∷ ts) rest →
     Scans bytes (codes "= " ++ text) (T.Becomes · where_at bytes (codes "= " ++ text) ∷ t ∷ ts) rest
@@ -37,23 +38,24 @@ module _ (B E : ℕ) where
   -- ---- arguments
 
   -- an outermost expression, where n brackets are open, that belongs to a fork or not
-  record OuterPrinted (f : Bool) (n : ℕ) (e : Expr) : Type 0 where
+  pub record OuterPrinted (f : Bool) (n : ℕ) (e : Expr) : Type 0 where
     prints : Prints (λ y ts us. ReadsExpr y ts us × Goes B E f n ts us) placeless_expr e (expr_text e)
 
-  as_outer : (f : Bool) (n : ℕ) (e : Expr) (us : List Tok) → ExprFine B E Comparison e f n 0 n us → OuterPrinted f n e
-  as_outer f n e us x = record {
-    prints = λ bytes after rest u us ends s.
-        mapped (λ y ts r. (r.0, goes B E f n r.1 (omega (arith, x.least, x.few)) (omega (arith, x.deep))))
-        (as_expr B E e x.printed_so bytes after rest u us ends s);
+  pub outer_printed : (f : Bool) (n : ℕ) (e : Expr) (p : IsPrinted B E e) → p.size ≤ E → n + p.depth ≤ B → OuterPrinted f n e
+  outer_printed f n e p few deep = record {
+    prints = λ bytes after rest u us ends s. mapped (λ y ts r. (r.0, goes B E f n r.1 few deep)) (as_expr B E e p bytes after rest u us ends s);
   }
 
-  record ArgPrinted (n : ℕ) (a : Arg) : Type 0 where
+  as_outer : (f : Bool) (n : ℕ) (e : Expr) (us : List Tok) → ExprFine B E Comparison e f n 0 n us → OuterPrinted f n e
+  as_outer f n e us x = outer_printed f n e x.printed_so (omega (arith, x.least, x.few)) (omega (arith, x.deep))
+
+  pub record ArgPrinted (n : ℕ) (a : Arg) : Type 0 where
     prints : Prints (λ y ts us. ReadsArg y ts us × Goes B E true n ts us) placeless_arg a (argument_text a.what)
 
-  record ArgsPrinted (n : ℕ) (args : List Arg) : Type 0 where
+  pub record ArgsPrinted (n : ℕ) (args : List Arg) : Type 0 where
     prints : Prints (λ y ts us. ReadsArgs y ts us × Goes B E true n ts us) (map placeless_arg) args (arguments_text [] args)
 
-  value_prints : (n : ℕ) (e : Expr) (p : Place) → OuterPrinted true n e → ArgPrinted n (record { place = p; what = Value e })
+  pub value_prints : (n : ℕ) (e : Expr) (p : Place) → OuterPrinted true n e → ArgPrinted n (record { place = p; what = Value e })
   value_prints n e p pe = record {
     prints = λ bytes after rest u us ends s.
         let b = pe.prints bytes after rest u us ends s in
@@ -111,11 +113,11 @@ module _ (B E : ℕ) where
         span_prints m n p p a b f.0 x.printed_so y.printed_so (omega (arith, last.0, x.least, y.least)) (omega (arith, x.deep, y.deep)),
       )
 
-  led : {args : List Arg} {ts us : List Tok} (lead : List ℕ) → ReadsArgs args ts us → arguments_text lead args ≡ lead ++ arguments_text [] args
+  pub led : {args : List Arg} {ts us : List Tok} (lead : List ℕ) → ReadsArgs args ts us → arguments_text lead args ≡ lead ++ arguments_text [] args
   led lead (one_arg r) = refl
   led lead (more_args r rs) = refl
 
-  one_printed : (n : ℕ) (a : Arg) → ArgPrinted n a → ArgsPrinted n (a ∷ [])
+  pub one_printed : (n : ℕ) (a : Arg) → ArgPrinted n a → ArgsPrinted n (a ∷ [])
   one_printed n a p = record {
     prints = λ bytes after rest u us ends s.
         let b = p.prints bytes after rest u us ends s in
@@ -123,7 +125,7 @@ module _ (B E : ℕ) where
         (record { first = b.first; more = b.more; thing = b.thing ∷ []; scans = b.scans; reads = (one_arg b.reads.0, b.reads.1); same = ap (λ (x : Arg). x ∷ []) b.same });
   }
 
-  more_printed : (n : ℕ) (a : Arg) (args : List Arg) → arguments_text (codes ", ") args ≡ codes ", " ++ arguments_text [] args → ArgPrinted n a → ArgsPrinted n args → ArgsPrinted n (a ∷ args)
+  pub more_printed : (n : ℕ) (a : Arg) (args : List Arg) → arguments_text (codes ", ") args ≡ codes ", " ++ arguments_text [] args → ArgPrinted n a → ArgsPrinted n args → ArgsPrinted n (a ∷ args)
   more_printed n a args lead p ps = record {
     prints = λ bytes after rest u us ends s.
         let y = ps.prints bytes after rest u us ends s in
@@ -150,7 +152,7 @@ module _ (B E : ℕ) where
   abbrev bare_forked : Forked → Forked
   bare_forked x = (placeless_length x.0, map placeless_arg x.1)
 
-  record ForkedPrinted (n : ℕ) (count : Option Expr) (args : List Arg) : Type 0 where
+  pub record ForkedPrinted (n : ℕ) (count : Option Expr) (args : List Arg) : Type 0 where
     prints : Prints (λ y ts us. reads_forked y ts us × Goes B E true n ts us) bare_forked (count, args) (forked_text count args)
 
   nothing_printed : (n : ℕ) → ForkedPrinted n None []
@@ -159,7 +161,7 @@ module _ (B E : ℕ) where
         record { first = u; more = us; thing = (None, []); scans = s; reads = (without_length no_args, record { steps = λ h. (h 0).fits }); same = refl };
   }
 
-  plain_printed : (n : ℕ) (args : List Arg) → ArgsPrinted n args → ForkedPrinted n None args
+  pub plain_printed : (n : ℕ) (args : List Arg) → ArgsPrinted n args → ForkedPrinted n None args
   plain_printed n args p = record {
     prints = λ bytes after rest u us ends s.
         let b = p.prints bytes after rest u us ends s in
@@ -174,7 +176,7 @@ module _ (B E : ℕ) where
         (record { first = b.first; more = b.more; thing = (Some b.thing, []); scans = b.scans; reads = (with_length b.reads.0 no_args, record { steps = λ h. b.reads.1.steps (λ k. leaves B E refl refl (h 0).fits) }); same = λ i. (Some (b.same i), []) });
   }
 
-  length_printed : (n : ℕ) (e : Expr) (args : List Arg) → arguments_text (codes " ") args ≡ codes " " ++ arguments_text [] args → OuterPrinted true n e → ArgsPrinted n args → ForkedPrinted n (Some e) args
+  pub length_printed : (n : ℕ) (e : Expr) (args : List Arg) → arguments_text (codes " ") args ≡ codes " " ++ arguments_text [] args → OuterPrinted true n e → ArgsPrinted n args → ForkedPrinted n (Some e) args
   length_printed n e args lead pe p = record {
     prints = λ bytes after rest u us ends s.
         let y = p.prints bytes after rest u us ends s in
@@ -204,14 +206,11 @@ module _ (B E : ℕ) where
   reads_stmts m y ts us = ReadsStmts y ts us × Calm B E m ts us
 
   -- where m brackets are open
-  record StmtPrinted (m : ℕ) (s : Stmt) : Type 0 where
+  pub record StmtPrinted (m : ℕ) (s : Stmt) : Type 0 where
     prints : (n : ℕ) → PrintsLines (reads_stmt m) placeless_stmt s (text_of_stmt s n)
 
   pub record BlockPrinted (m : ℕ) (stmts : List Stmt) : Type 0 where
     pub prints : (n : ℕ) → PrintsLines (reads_stmts m) (map placeless_stmt) stmts (block_text (map text_of_stmt stmts) n)
-
-  stmt_text : (s : Stmt) (n : ℕ) → text_of_stmt s n ≡ text_of_what s.what n
-  stmt_text s n = ap (λ (m : StmtText). m n) (fold_out-Stmt StmtText StmtText what_text text_layer s)
 
   bare_stmt : (s t : Stmt) → placeless_what s.what ≡ placeless_what t.what → placeless_stmt s ≡ placeless_stmt t
   bare_stmt s t h =
@@ -233,9 +232,6 @@ module _ (B E : ℕ) where
   }
 
   -- ---- `let`
-
-  let_text : (name : List ℕ) (p : Place) (e : Expr) (n : ℕ) → text_of_what (Let name p e) n ≡ line n (codes "let " ++ (name ++ (codes " = " ++ (expr_text e ++ codes ";"))))
-  let_text name p e n = ap (λ w. text_of_what w n) (sym (W.rolls-Let name p e)) ∙ ap (λ (m : StmtText). m n) (fold-roll-What StmtText StmtText what_text text_layer (F.Let name p e))
 
   bare_let : (name : List ℕ) (p q : Place) (a b : Expr) → placeless_expr a ≡ placeless_expr b → placeless_what (Let name p a) ≡ placeless_what (Let name q b)
   bare_let name p q a b h =
@@ -262,9 +258,6 @@ module _ (B E : ℕ) where
 
   -- ---- an assignment
 
-  set_text : (name : List ℕ) (p : Place) (e : Expr) (n : ℕ) → text_of_what (Set name p e) n ≡ line n (name ++ (codes " = " ++ (expr_text e ++ codes ";")))
-  set_text name p e n = ap (λ w. text_of_what w n) (sym (W.rolls-Set name p e)) ∙ ap (λ (m : StmtText). m n) (fold-roll-What StmtText StmtText what_text text_layer (F.Set name p e))
-
   bare_set : (name : List ℕ) (p q : Place) (a b : Expr) → placeless_expr a ≡ placeless_expr b → placeless_what (Set name p a) ≡ placeless_what (Set name q b)
   bare_set name p q a b h =
       let is = λ (p : Place) (e : Expr). ap placeless_what (sym (W.rolls-Set name p e)) ∙ fold-roll-What What Stmt what_layer stmt_layer (F.Set name p e) in
@@ -290,9 +283,6 @@ module _ (B E : ℕ) where
 
   -- ---- a write
 
-  store_text : (name : List ℕ) (p : Place) (i e : Expr) (n : ℕ) → text_of_what (Store name p i e) n ≡ line n (element_text name i ++ (codes " = " ++ (expr_text e ++ codes ";")))
-  store_text name p i e n = ap (λ w. text_of_what w n) (sym (W.rolls-Store name p i e)) ∙ ap (λ (m : StmtText). m n) (fold-roll-What StmtText StmtText what_text text_layer (F.Store name p i e))
-
   bare_store : (name : List ℕ) (p q : Place) (i j a b : Expr) → placeless_expr i ≡ placeless_expr j → placeless_expr a ≡ placeless_expr b →
       placeless_what (Store name p i a) ≡ placeless_what (Store name q j b)
   bare_store name p q i j a b g h =
@@ -302,7 +292,7 @@ module _ (B E : ℕ) where
   store_parts : (a b c d e f g z : List ℕ) → a ++ (b ++ (c ++ (d ++ (e ++ (f ++ (g ++ z)))))) ≡ ((a ++ (b ++ (c ++ d))) ++ (e ++ (f ++ g))) ++ z
   store_parts a b c d e f g z = simp append_assoc refl
 
-  store_printed : (m : ℕ) (name : List ℕ) (p q : Place) (i e : Expr) → IsFreeWord name → MayOpen B E m → OuterPrinted false (suc m) i → OuterPrinted false m e →
+  pub store_printed : (m : ℕ) (name : List ℕ) (p q : Place) (i e : Expr) → IsFreeWord name → MayOpen B E m → OuterPrinted false (suc m) i → OuterPrinted false m e →
       StmtPrinted m (record { place = p; what = Store name q i e })
   store_printed m name p q i e w o pi pe = one_line m (record { place = p; what = Store name q i e }) _ (store_text name q i e)
       (λ bytes after rest u us ends s.
@@ -320,10 +310,6 @@ module _ (B E : ℕ) where
 
   -- ---- a cumulation
 
-  fold_text : (name : List ℕ) (p : Place) (i : Expr) (op : Op) (e : Expr) (n : ℕ) →
-      text_of_what (Fold name p i op e) n ≡ line n (element_text name i ++ (codes " " ++ (op_text op ++ (codes "= " ++ (expr_text e ++ codes ";")))))
-  fold_text name p i op e n = ap (λ w. text_of_what w n) (sym (W.rolls-Fold name p i op e)) ∙ ap (λ (m : StmtText). m n) (fold-roll-What StmtText StmtText what_text text_layer (F.Fold name p i op e))
-
   bare_fold : (name : List ℕ) (p q : Place) (i j : Expr) (op : Op) (a b : Expr) → placeless_expr i ≡ placeless_expr j → placeless_expr a ≡ placeless_expr b →
       placeless_what (Fold name p i op a) ≡ placeless_what (Fold name q j op b)
   bare_fold name p q i j op a b g h =
@@ -333,7 +319,7 @@ module _ (B E : ℕ) where
   fold_parts : (a b c d e f g h k z : List ℕ) → a ++ (b ++ (c ++ (d ++ (e ++ (f ++ (g ++ (h ++ (k ++ z)))))))) ≡ ((a ++ (b ++ (c ++ d))) ++ (e ++ (f ++ (g ++ (h ++ k))))) ++ z
   fold_parts a b c d e f g h k z = simp append_assoc refl
 
-  fold_printed : (m : ℕ) (name : List ℕ) (p q : Place) (i : Expr) (op : Op) (e : Expr) → IsFreeWord name → MayOpen B E m → OuterPrinted false (suc m) i →
+  pub fold_printed : (m : ℕ) (name : List ℕ) (p q : Place) (i : Expr) (op : Op) (e : Expr) → IsFreeWord name → MayOpen B E m → OuterPrinted false (suc m) i →
       OuterPrinted false m e → StmtPrinted m (record { place = p; what = Fold name q i op e })
   fold_printed m name p q i op e w may pi pe = one_line m (record { place = p; what = Fold name q i op e }) _ (fold_text name q i op e)
       (λ bytes after rest u us ends s.
@@ -352,16 +338,12 @@ module _ (B E : ℕ) where
 
   -- ---- a fork
 
-  fork_text : (name : List ℕ) (p : Place) (count : Option Expr) (args : List Arg) (n : ℕ) →
-      text_of_what (Fork name p count args) n ≡ line n (codes "fork " ++ (name ++ (codes "(" ++ (forked_text count args ++ codes ");"))))
-  fork_text name p count args n = ap (λ w. text_of_what w n) (sym (W.rolls-Fork name p count args)) ∙ ap (λ (m : StmtText). m n) (fold-roll-What StmtText StmtText what_text text_layer (F.Fork name p count args))
-
   bare_fork : (name : List ℕ) (p q : Place) (x y : Forked) → bare_forked x ≡ bare_forked y → placeless_what (Fork name p x.0 x.1) ≡ placeless_what (Fork name q y.0 y.1)
   bare_fork name p q x y h =
       let is = λ (p : Place) (x : Forked). ap placeless_what (sym (W.rolls-Fork name p x.0 x.1)) ∙ fold-roll-What What Stmt what_layer stmt_layer (F.Fork name p x.0 x.1) in
       is p x ∙ ap (λ (x : Forked). Fork name nowhere x.0 x.1) h ∙ sym (is q y)
 
-  fork_printed : (m : ℕ) (name : List ℕ) (p q : Place) (count : Option Expr) (args : List Arg) → IsFreeWord name → MayOpen B E m → ForkedPrinted (suc m) count args →
+  pub fork_printed : (m : ℕ) (name : List ℕ) (p q : Place) (count : Option Expr) (args : List Arg) → IsFreeWord name → MayOpen B E m → ForkedPrinted (suc m) count args →
       StmtPrinted m (record { place = p; what = Fork name q count args })
   fork_printed m name p q count args w o pf = one_line m (record { place = p; what = Fork name q count args }) (codes "fork " ++ (name ++ (codes "(" ++ (forked_text count args ++ codes ");")))) (fork_text name q count args)
       (λ bytes after rest u us ends s.
@@ -378,10 +360,10 @@ module _ (B E : ℕ) where
 
   -- ---- blocks
 
-  no_stmts : (m : ℕ) → BlockPrinted m []
+  pub no_stmts : (m : ℕ) → BlockPrinted m []
   no_stmts m = record { prints = λ n bytes after rest u us s. record { first = u; more = us; thing = []; scans = s; reads = (no_stmt, record { steps = λ h. h }); same = refl } }
 
-  more_stmts : (m : ℕ) (s : Stmt) (stmts : List Stmt) → StmtPrinted m s → BlockPrinted m stmts → BlockPrinted m (s ∷ stmts)
+  pub more_stmts : (m : ℕ) (s : Stmt) (stmts : List Stmt) → StmtPrinted m s → BlockPrinted m stmts → BlockPrinted m (s ∷ stmts)
   more_stmts m s stmts p ps = record {
     prints = λ n bytes after rest u us scans.
         let y = ps.prints n bytes after rest u us scans in
@@ -397,10 +379,6 @@ module _ (B E : ℕ) where
 
   -- ---- `for`
 
-  for_text : (name : List ℕ) (p : Place) (a b : Expr) (body : List Stmt) (n : ℕ) → text_of_what (For name p a b body) n
-      ≡ line n (codes "for " ++ (name ++ (codes " in " ++ (span_text a b ++ codes " {")))) ++ (block_text (map text_of_stmt body) n ++ line n (codes "}"))
-  for_text name p a b body n = ap (λ w. text_of_what w n) (sym (W.rolls-For name p a b body)) ∙ ap (λ (m : StmtText). m n) (fold-roll-What StmtText StmtText what_text text_layer (F.For name p a b body))
-
   bare_for : (name : List ℕ) (p q : Place) (a b c d : Expr) (xs ys : List Stmt) → placeless_expr a ≡ placeless_expr c → placeless_expr b ≡ placeless_expr d →
       map placeless_stmt xs ≡ map placeless_stmt ys → placeless_what (For name p a b xs) ≡ placeless_what (For name q c d ys)
   bare_for name p q a b c d xs ys g h k =
@@ -415,7 +393,7 @@ module _ (B E : ℕ) where
   abbrev behind_head : List ℕ → ℕ → List ℕ → List ℕ
   behind_head body n after = body ++ (blanks n ++ (codes "}\n" ++ after))
 
-  for_printed : (m : ℕ) (name : List ℕ) (p q : Place) (a b : Expr) (body : List Stmt) → IsFreeWord name → MayOpen B E m → OuterPrinted false m a →
+  pub for_printed : (m : ℕ) (name : List ℕ) (p q : Place) (a b : Expr) (body : List Stmt) → IsFreeWord name → MayOpen B E m → OuterPrinted false m a →
       OuterPrinted false m b → BlockPrinted (suc m) body → StmtPrinted m (record { place = p; what = For name q a b body })
   for_printed m name p q a b body w o pa pb pbody = record {
     prints = λ n bytes after rest u us s.
@@ -439,10 +417,6 @@ module _ (B E : ℕ) where
   }
 
   -- ---- `if`
-
-  if_text : (e : Expr) (xs ys : List Stmt) (n : ℕ) → text_of_what (If e xs ys) n
-      ≡ line n (codes "if " ++ (expr_text e ++ codes " {")) ++ (block_text (map text_of_stmt xs) n ++ (else_text (map text_of_stmt ys) n ++ line n (codes "}")))
-  if_text e xs ys n = ap (λ w. text_of_what w n) (sym (W.rolls-If e xs ys)) ∙ ap (λ (m : StmtText). m n) (fold-roll-What StmtText StmtText what_text text_layer (F.If e xs ys))
 
   bare_if : (a b : Expr) (us vs xs ys : List Stmt) → placeless_expr a ≡ placeless_expr b → map placeless_stmt us ≡ map placeless_stmt xs →
       map placeless_stmt vs ≡ map placeless_stmt ys → placeless_what (If a us vs) ≡ placeless_what (If b xs ys)

@@ -1,10 +1,11 @@
 -- The printed text of an expression is read as it, but for places.
-use Rattle.kt_read.proofs.Regrouped.{three_parts, four_parts}
+use Rattle.kt_canon.proofs.Regrouped.{three_parts, four_parts}
 use Rattle.std.proofs.Common.{◌≡◌, ℕ, suc, ◌+◌, ◌≤◌, max, cond, if◌then◌else◌, ◌<◌, ◌^◌, List, ◌∷◌, ◌++◌, length, codes, refl, ap, sym, subst, ◌∙◌, append_assoc, Some, Ok, Bool, true, false, [], arith, Option}
 use Rattle.std.specs.Fmt.{decimal}
 use Rattle.kt_law.specs.declared.operators.BinOp.{BinOp}
 use Rattle.kt_law.specs.declared.operators.BinOp.TheVariants as O
 use Rattle.kt_law.specs.declared.places.Place.{Place}
+use Rattle.kt_print.proofs.Forms.{printed_bin, printed_elem, printed_num, printed_var}
 use Rattle.kt_prog.specs.declared.programs.Expr.{Expr, Num, Var, Elem, Bin, fold-roll-Expr}
 use Rattle.kt_prog.specs.declared.programs.Expr.TheVariants.{rolls-Num, rolls-Var, rolls-Elem, rolls-Bin}
 use Rattle.kt_prog.specs.declared.programs.Expr.TheOpen as E
@@ -23,14 +24,14 @@ use Rattle.kt_tokens.specs.Tokens.{◌·◌, named, numbered}
 use Rattle.kt_tokens.specs.Words.{operators, punctuation, reserved, symbol_of}
 use Rattle.kt_read.specs.Expressions.{ReadsExpr, alone, compared, ReadsSum, sum_of, ReadsTerms, no_term, one_term, ReadsProduct, product_of, ReadsFactors, no_factor, one_factor, ReadsAtom, number, name, element, function, group}
 use Rattle.kt_read.specs.Operators.{additive_of, comparison_of, entry_of, function_of, multiplicative_of}
-use Rattle.kt_read.specs.Placeless.{expr_layer, nowhere, placeless_expr}
-use Rattle.kt_read.proofs.Scanned.{Scans, blank}
+use Rattle.kt_canon.specs.Placeless.{expr_layer, nowhere, placeless_expr}
+use Rattle.kt_canon.proofs.Scanned.{Scans, blank}
 use Rattle.std.specs.Str.{bytes_eq}
 use Rattle.kt_read.proofs.Spans.{within}
-use Rattle.kt_read.proofs.Fits.{Fits, IsPlain, Slots, at_count, call_slots, closed_one, comma_one, element_slots, inner_plain, join_slots, one_slot, opened_one, paren_slots, plain_additive, plain_comparison, plain_multiplicative}
-use Rattle.kt_read.proofs.Spelled.{NoWord}
-use Rattle.kt_read.proofs.FineTokens.{AreFine, IsFreeWord}
-use Rattle.kt_read.proofs.Scanning.{a_name, a_number, comma, free_word, paren_close, paren_open, sign_and_blank, square_close, square_open}
+use Rattle.kt_canon.proofs.Fits.{Fits, IsPlain, Slots, at_count, call_slots, closed_one, comma_one, element_slots, inner_plain, join_slots, one_slot, opened_one, paren_slots, plain_additive, plain_comparison, plain_multiplicative}
+use Rattle.kt_canon.proofs.Spelled.{NoWord}
+use Rattle.kt_canon.proofs.FineTokens.{AreFine, IsFreeWord}
+use Rattle.kt_canon.proofs.Scanning.{a_name, a_number, comma, free_word, paren_close, paren_open, sign_and_blank, square_close, square_open}
 
 -- ---- in general
 
@@ -62,18 +63,6 @@ pub at_text : {A : Type 0} {R : A → List Tok → List Tok → Type 0} {bare : 
 at_text {R} {bare} {x} {bytes} {rest} {us} e b = subst (λ (text : List ℕ). Back R bare x bytes text rest us) e b
 
 -- ---- what equations say of expressions
-
-printed_num : (n : ℕ) → printed (Num n) ≡ record { level = Atom; text = decimal n }
-printed_num n = ap printed (sym (rolls-Num n)) ∙ fold-roll-Expr Printed print_layer (E.Num n)
-
-printed_var : (n : List ℕ) (p : Place) → printed (Var n p) ≡ record { level = Atom; text = n }
-printed_var n p = ap printed (sym (rolls-Var n p)) ∙ fold-roll-Expr Printed print_layer (E.Var n p)
-
-printed_elem : (n : List ℕ) (p : Place) (e : Expr) → printed (Elem n p e) ≡ record { level = Atom; text = n ++ (codes "[" ++ (expr_text e ++ codes "]")) }
-printed_elem n p e = ap printed (sym (rolls-Elem n p e)) ∙ fold-roll-Expr Printed print_layer (E.Elem n p e)
-
-printed_bin : (op : BinOp) (a b : Expr) → printed (Bin op a b) ≡ record { level = level_of op; text = applied_text (level_of op) (sign_of op) (printed a) (printed b) }
-printed_bin op a b = ap printed (sym (rolls-Bin op a b)) ∙ fold-roll-Expr Printed print_layer (E.Bin op a b)
 
 bare_var : (n : List ℕ) (p q : Place) → placeless_expr (Var n p) ≡ placeless_expr (Var n q)
 bare_var n p q =
@@ -192,10 +181,10 @@ entry_each P [] word y ps e = absurd cc
 entry_each P (row ∷ rows) word y ps e =
     entry_step P (bytes_eq word row.0) row.1 y (entry_of rows word) ps.0 (λ e. entry_each P rows word y ps.1 e) e
 
-abbrev plus_if : Bool → ℕ → ℕ → ℕ
+abbrev pub plus_if : Bool → ℕ → ℕ → ℕ
 plus_if more k s = if more then s + k else s
 
-plus_most : (b : Bool) (k s : ℕ) → plus_if b k s ≤ s + k
+pub plus_most : (b : Bool) (k s : ℕ) → plus_if b k s ≤ s + k
 plus_most true k s = omega arith
 plus_most false k s = omega arith
 
@@ -210,11 +199,11 @@ grouped_at Atom Product = true
 grouped_at _ _ = false
 
 -- the tokens of an operator's text, and how deep it nests
-abbrev bin_size : Level → Level → Level → ℕ → ℕ → ℕ
+abbrev pub bin_size : Level → Level → Level → ℕ → ℕ → ℕ
 bin_size Atom la lb sa sb = (sa + sb) + 4
 bin_size l la lb sa sb = plus_if (left_grouped l la) 2 sa + (1 + plus_if (right_grouped l lb) 2 sb)
 
-abbrev bin_depth : Level → Level → Level → ℕ → ℕ → ℕ
+abbrev pub bin_depth : Level → Level → Level → ℕ → ℕ → ℕ
 bin_depth Atom la lb da db = max da db + 1
 bin_depth l la lb da db = max (plus_if (left_grouped l la) 1 da) (max 0 (plus_if (right_grouped l lb) 1 db))
 
@@ -440,7 +429,7 @@ module _ (B E : ℕ) where
         same = bare_bin op a b first.thing second.thing first.same second.same;
       })
 
-  elem_prints : (n : List ℕ) (p : Place) (e : Expr) → IsFreeWord n → (pe : IsPrinted e) → PrintsAt Atom (pe.size + 3) (pe.depth + 1) (Elem n p e) (n ++ (codes "[" ++ (expr_text e ++ codes "]")))
+  pub elem_prints : (n : List ℕ) (p : Place) (e : Expr) → IsFreeWord n → (pe : IsPrinted e) → PrintsAt Atom (pe.size + 3) (pe.depth + 1) (Elem n p e) (n ++ (codes "[" ++ (expr_text e ++ codes "]")))
   elem_prints n p e w pe bytes after rest u us ends s =
       let inner = as_expr e pe bytes (codes "]" ++ after) rest _ (u ∷ us) refl (square_close s) in
       at_text (four_parts n (codes "[") (expr_text e) (codes "]") after)
@@ -453,25 +442,25 @@ module _ (B E : ℕ) where
         same = bare_elem n p _ e inner.thing inner.same;
       })
 
-  var_prints : (n : List ℕ) (p : Place) → IsFreeWord n → PrintsAt Atom 1 0 (Var n p) n
+  pub var_prints : (n : List ℕ) (p : Place) → IsFreeWord n → PrintsAt Atom 1 0 (Var n p) n
   var_prints n p w bytes after rest u us ends s = record { first = _; more = u ∷ us; thing = Var n _; scans = a_name n w ends s; reads = (name, one_slot B E _ (u ∷ us) plain_name); same = bare_var n p _ }
 
-  num_prints : (n : ℕ) → n < 2 ^ 64 → PrintsAt Atom 1 0 (Num n) (decimal n)
+  pub num_prints : (n : ℕ) → n < 2 ^ 64 → PrintsAt Atom 1 0 (Num n) (decimal n)
   num_prints n small bytes after rest u us ends s = record { first = _; more = u ∷ us; thing = Num n; scans = a_number n small ends s; reads = (number, one_slot B E _ (u ∷ us) plain_number); same = refl }
 
   abbrev as_printed : (e : Expr) (level : Level) (text : List ℕ) (s d : ℕ) → (let p : Printed = record { level = level; text = text } in printed e ≡ p) → PrintsAt level s d e text → IsPrinted e
   as_printed e level text s d is h = record { size = s; depth = d; prints = subst (λ (p : Printed). PrintsAt p.level s d e p.text) (sym is) h }
 
-  abbrev num_printed : (n : ℕ) → n < 2 ^ 64 → IsPrinted (Num n)
+  abbrev pub num_printed : (n : ℕ) → n < 2 ^ 64 → IsPrinted (Num n)
   num_printed n small = as_printed (Num n) Atom (decimal n) 1 0 (printed_num n) (num_prints n small)
 
-  abbrev var_printed : (n : List ℕ) (p : Place) → IsFreeWord n → IsPrinted (Var n p)
+  abbrev pub var_printed : (n : List ℕ) (p : Place) → IsFreeWord n → IsPrinted (Var n p)
   var_printed n p w = as_printed (Var n p) Atom n 1 0 (printed_var n p) (var_prints n p w)
 
-  abbrev elem_printed : (n : List ℕ) (p : Place) (e : Expr) → IsFreeWord n → IsPrinted e → IsPrinted (Elem n p e)
+  abbrev pub elem_printed : (n : List ℕ) (p : Place) (e : Expr) → IsFreeWord n → IsPrinted e → IsPrinted (Elem n p e)
   elem_printed n p e w pe = as_printed (Elem n p e) Atom (n ++ (codes "[" ++ (expr_text e ++ codes "]"))) (pe.size + 3) (pe.depth + 1) (printed_elem n p e) (elem_prints n p e w pe)
 
-  bin_prints : (op : BinOp) (a b : Expr) (pa : IsPrinted a) (pb : IsPrinted b) →
+  pub bin_prints : (op : BinOp) (a b : Expr) (pa : IsPrinted a) (pb : IsPrinted b) →
       PrintsAt (level_of op) (bin_size (level_of op) (printed a).level (printed b).level pa.size pb.size) (bin_depth (level_of op) (printed a).level (printed b).level pa.depth pb.depth) (Bin op a b) (applied_text (level_of op) (sign_of op) (printed a) (printed b))
   unfolding reserved punctuation operators function_of
   bin_prints O.Eq a b pa pb = infix_prints Comparison O.Eq a b (record { mark = T.Eq; begins = λ text. refl; lexed = λ text. refl; symbol = refl; plain = record { no_end = refl; no_open = refl; stays = λ n. refl } }) (compares O.Eq T.Eq refl) pa pb
@@ -492,7 +481,7 @@ module _ (B E : ℕ) where
   bin_prints O.Or a b pa pb = call_prints O.Or a b (free_word (codes "or") refl refl) refl pa pb
   bin_prints O.Xor a b pa pb = call_prints O.Xor a b (free_word (codes "xor") refl refl) refl pa pb
 
-  abbrev bin_printed : (op : BinOp) (a b : Expr) → IsPrinted a → IsPrinted b → IsPrinted (Bin op a b)
+  abbrev pub bin_printed : (op : BinOp) (a b : Expr) → IsPrinted a → IsPrinted b → IsPrinted (Bin op a b)
   bin_printed op a b pa pb =
       as_printed (Bin op a b) (level_of op) (applied_text (level_of op) (sign_of op) (printed a) (printed b))
       (bin_size (level_of op) (printed a).level (printed b).level pa.size pb.size) (bin_depth (level_of op) (printed a).level (printed b).level pa.depth pb.depth)

@@ -1,0 +1,11 @@
+pub mod Regrouped
+pub mod Scanned
+pub mod Spelled
+pub mod FineTokens
+pub mod Scanning
+pub mod Fits
+pub mod PrintedExpressions
+pub mod PrintedStatements
+pub mod PrintedPrograms
+pub mod PlacelessTexts
+pub mod ReadAgain

@@ -1,0 +1,6 @@
+//! Opening a job: its program is read and checked, and its data are read.
+#![tactic(auto)]
+
+mod opening;
+
+pub use opening::{Unopened, open_job};
