@@ -36,3 +36,5 @@ pub mod PathBegins
 pub mod PathKids
 pub mod Prefixes
 pub mod LoopStays
+pub mod Replaced
+pub mod Leaf

@@ -21,3 +21,4 @@ pub mod Paths
 pub mod Named
 pub mod Listed
 pub mod PathTheorems
+pub mod Leaves

@@ -26,3 +26,5 @@ pub mod PathEvents
 pub mod PathCounts
 pub mod PathsListed
 pub mod PathLines
+pub mod LoopActs
+pub mod LoopOperations
