@@ -1,5 +1,5 @@
 -- The first of some faults is one fact of them, whatever their order.
-use Rattle.std.proofs.Common.{◌≡◌, ◌<◌, ℕ, Bool, true, false, List, [], ◌∷◌, Option, None, ◌⊎◌, inl, inr, refl, sym, ap, subst, ◌∙◌, arith, nat_eq, nat_lt, not, ◌&&◌, ◌||◌, if◌then◌else◌}
+use Rattle.std.proofs.Common.{◌≡◌, ◌<◌, ℕ, Bool, true, false, List, [], ◌∷◌, Option, Some, None, ◌⊎◌, inl, inr, refl, sym, ap, subst, ◌∙◌, arith, nat_eq, nat_lt, not, ◌&&◌, ◌||◌, if◌then◌else◌}
 use Rattle.std.proofs.lemmas.Bool.Decides.{nat_tests}
 use Rattle.kt_prog.specs.Runs.{FaultRun}
 use Rattle.kt_prog.specs.Outcome.{path_before, index_before, fault_before, first_fault, fault_or_rows}
@@ -64,21 +64,83 @@ neither_before (m ∷ p) (n ∷ q) a b = by (order_of m n) (neither_before p q)
         let r = deeper a' b' in
         λ i. e i ∷ r i
 
--- faults of calls' bodies stand in the order of their paths
-abbrev OfCall : FaultRun → Type 0
-OfCall f = f.index ≡ None
+pub irreflexive : (p : List ℕ) → path_before p p ≡ false
+irreflexive [] = refl
+irreflexive (k ∷ p) = before_same k p p ∙ irreflexive p
 
-drop_index : (a b : Bool) (i j : Option ℕ) → i ≡ None → j ≡ None → (a || not b && index_before i j) ≡ a
-drop_index a b i j e h = subst (λ (o : Option ℕ). (a || not b && index_before o j) ≡ a) (sym e) (subst (λ (o : Option ℕ). (a || not b && index_before None o) ≡ a) (sym h) (plain a b))
+-- the order of indexes
+index_on : (i j k : Option ℕ) → index_before i j ≡ true → index_before j k ≡ true → index_before i k ≡ true
+index_on None None k a b = absurd (cc a)
+index_on None (Some j) None a b = absurd (cc b)
+index_on None (Some j) (Some k) a b = refl
+index_on (Some i) None k a b = absurd (cc a)
+index_on (Some i) (Some j) None a b = absurd (cc b)
+index_on (Some i) (Some j) (Some k) a b = less_on i j k a b
   where
-    plain : (a b : Bool) → (a || not b && false) ≡ a
-    plain true true = refl
-    plain true false = refl
-    plain false true = refl
-    plain false false = refl
+    less_on : (i j k : ℕ) → nat_lt i j ≡ true → nat_lt j k ≡ true → nat_lt i k ≡ true
+    less_on i j k a b = grind (arith, nat_tests)
 
-by_paths : (f g : FaultRun) → OfCall f → OfCall g → fault_before f g ≡ path_before f.path g.path
-by_paths f g a b = drop_index (path_before f.path g.path) (path_before g.path f.path) f.index g.index a b
+index_same : (i : Option ℕ) → index_before i i ≡ false
+index_same None = refl
+index_same (Some i) = not_less i
+  where
+    not_less : (i : ℕ) → nat_lt i i ≡ false
+    not_less i = grind (arith, nat_tests)
+
+neither_index : (i j : Option ℕ) → index_before i j ≡ false → index_before j i ≡ false → i ≡ j
+neither_index None None a b = refl
+neither_index None (Some j) a b = absurd (cc a)
+neither_index (Some i) None a b = absurd (cc b)
+neither_index (Some i) (Some j) a b = ap Some (neither_less i j a b)
+  where
+    neither_less : (i j : ℕ) → nat_lt i j ≡ false → nat_lt j i ≡ false → i ≡ j
+    neither_less i j a b = grind (arith, nat_tests)
+
+-- one fault is before another by its path, or at one path by its index
+abbrev Before : FaultRun → FaultRun → Type 0
+Before f g = (path_before f.path g.path ≡ true) ⊎ ((f.path ≡ g.path) × (index_before f.index g.index ≡ true))
+
+two_tests : (a b : Bool) (i : Bool) → (a || not b && i) ≡ true → (a ≡ true) ⊎ ((a ≡ false) × (b ≡ false) × (i ≡ true))
+two_tests true b i e = inl refl
+two_tests false true i e = absurd (cc e)
+two_tests false false i e = inr (refl, refl, e)
+
+before_view : (f g : FaultRun) → fault_before f g ≡ true → Before f g
+before_view f g e = elim (two_tests (path_before f.path g.path) (path_before g.path f.path) (index_before f.index g.index) e) [
+  | inl a ↦ inl a
+  | inr b ↦ inr (neither_before f.path g.path b.0 b.1, b.2)
+]
+
+view_before : (f g : FaultRun) → Before f g → fault_before f g ≡ true
+view_before f g (inl a) = rw a refl
+view_before f g (inr b) = by (path_before f.path g.path) (path_before g.path f.path) (index_before f.index g.index) (ap (path_before g.path) b.0 ∙ irreflexive g.path) b.1
+  where
+    by : (a c i : Bool) → c ≡ false → i ≡ true → (a || not c && i) ≡ true
+    by true c i e h = refl
+    by false c i e h = rw (e, h) refl
+
+fault_on : (f g h : FaultRun) → fault_before f g ≡ true → fault_before g h ≡ true → fault_before f h ≡ true
+fault_on f g h a b = view_before f h (both (before_view f g a) (before_view g h b))
+  where
+    both : Before f g → Before g h → Before f h
+    both (inl p) (inl q) = inl (before_on f.path g.path h.path p q)
+    both (inl p) (inr q) = inl (subst (λ (w : List ℕ). path_before f.path w ≡ true) q.0 p)
+    both (inr p) (inl q) = inl (subst (λ (w : List ℕ). path_before w h.path ≡ true) (sym p.0) q)
+    both (inr p) (inr q) = inr (p.0 ∙ q.0, index_on f.index g.index h.index p.1 q.1)
+
+fault_self : (f : FaultRun) → fault_before f f ≡ false
+fault_self f = rw (irreflexive f.path, index_same f.index) refl
+
+neither_fault : (f g : FaultRun) → fault_before f g ≡ false → fault_before g f ≡ false → (f.path ≡ g.path) × (f.index ≡ g.index)
+neither_fault f g a b =
+    let one = split (path_before f.path g.path) (path_before g.path f.path) (index_before f.index g.index) a in
+    let two = split (path_before g.path f.path) (path_before f.path g.path) (index_before g.index f.index) b in
+    (neither_before f.path g.path one.0 two.0, neither_index f.index g.index (one.1 two.0) (two.1 one.0))
+  where
+    split : (a c i : Bool) → (a || not c && i) ≡ false → (a ≡ false) × (c ≡ false → i ≡ false)
+    split true c i e = absurd (cc e)
+    split false true i e = (refl, λ h. absurd (cc h))
+    split false false i e = (refl, λ h. e)
 
 -- the first of the faults is one of them
 first_in : (f : FaultRun) (fs : List FaultRun) → In (first_fault f fs) (f ∷ fs)
@@ -90,73 +152,66 @@ first_in f (g ∷ fs) = by (fault_before g f) (first_in f fs) (first_in g fs)
     by false (inl e) other = inl e
     by false (inr h) other = inr (inr h)
 
--- none of them has a path before that of the first
-first_least : (f : FaultRun) (fs : List FaultRun) → ((g : FaultRun) → In g (f ∷ fs) → OfCall g) → (g : FaultRun) → In g (f ∷ fs)
-    → path_before g.path (first_fault f fs).path ≡ false
-first_least f [] calls g (inl e) = subst (λ (h : FaultRun). path_before h.path f.path ≡ false) (sym e) (irreflexive f.path)
+-- what is not before the one is not before the other, which is before it
+not_later : (f g h : FaultRun) → fault_before f h ≡ false → fault_before g h ≡ true → fault_before f g ≡ false
+not_later f g h none less = decide (fault_before f g) refl
   where
-    irreflexive : (p : List ℕ) → path_before p p ≡ false
-    irreflexive [] = refl
-    irreflexive (k ∷ p) = before_same k p p ∙ irreflexive p
-first_least f [] calls g (inr h) = absurd h
-first_least f (h ∷ fs) calls g i =
-    by (fault_before h f) refl
-    (first_least f fs (λ u j. calls u (keep u j)))
-    (first_least h fs (λ u j. calls u (inr j))) i
+    decide : (b : Bool) → fault_before f g ≡ b → b ≡ false
+    decide true e = absurd (cc (sym none ∙ fault_on f g h e less))
+    decide false e = refl
+
+-- and the other way: nothing is before the first of two that is not before a third
+not_sooner : (f g h : FaultRun) → fault_before g f ≡ true → fault_before g h ≡ false → fault_before f h ≡ false
+not_sooner f g h less none = decide (fault_before f h) refl
   where
-    keep : (u : FaultRun) → In u (f ∷ fs) → In u (f ∷ (h ∷ fs))
-    keep u (inl e) = inl e
-    keep u (inr j) = inr (inr j)
+    decide : (b : Bool) → fault_before f h ≡ b → b ≡ false
+    decide true e = absurd (cc (sym none ∙ fault_on g f h less e))
+    decide false e = refl
 
-    -- what is not before the one is not before the other, which is before it or the same
-    later : (p q r : List ℕ) → path_before p q ≡ false → (path_before r q ≡ true → path_before p r ≡ true → path_before p q ≡ true)
-        → path_before r q ≡ true → path_before p r ≡ false
-    later p q r not_before on h = decide (path_before p r) refl
-      where
-        decide : (b : Bool) → path_before p r ≡ b → b ≡ false
-        decide true e = absurd (cc (sym not_before ∙ on h e))
-        decide false e = refl
+-- two places in the order that are the same
+moved : (a b c : FaultRun) → (b.path ≡ c.path) × (b.index ≡ c.index) → Before a b → Before a c
+moved a b c same (inl p) = inl (subst (λ (q : List ℕ). path_before a.path q ≡ true) same.0 p)
+moved a b c same (inr p) = inr (p.0 ∙ same.0, subst (λ (k : Option ℕ). index_before a.index k ≡ true) same.1 p.1)
 
+-- none of them is before the first
+first_least : (f : FaultRun) (fs : List FaultRun) (g : FaultRun) → In g (f ∷ fs) → fault_before g (first_fault f fs) ≡ false
+first_least f [] g (inl e) = subst (λ (h : FaultRun). fault_before h f ≡ false) (sym e) (fault_self f)
+first_least f [] g (inr h) = absurd h
+first_least f (h ∷ fs) g i = by (fault_before h f) refl (first_least f fs) (first_least h fs) i
+  where
     by : (b : Bool) → fault_before h f ≡ b
-        → ((u : FaultRun) → In u (f ∷ fs) → path_before u.path (first_fault f fs).path ≡ false)
-        → ((u : FaultRun) → In u (h ∷ fs) → path_before u.path (first_fault h fs).path ≡ false)
-        → In g (f ∷ (h ∷ fs)) → path_before g.path (first_fault (if b then h else f) fs).path ≡ false
+        → ((u : FaultRun) → In u (f ∷ fs) → fault_before u (first_fault f fs) ≡ false)
+        → ((u : FaultRun) → In u (h ∷ fs) → fault_before u (first_fault h fs) ≡ false)
+        → In g (f ∷ (h ∷ fs)) → fault_before g (first_fault (if b then h else f) fs) ≡ false
     by true e mine other (inr j) = other g j
     by true e mine other (inl same) =
-        let hf : path_before h.path f.path ≡ true = sym (by_paths h f (calls h (inr (inl refl))) (calls f (inl refl))) ∙ e in
-        let least = other h (inl refl) in
-        subst (λ (w : FaultRun). path_before w.path (first_fault h fs).path ≡ false) (sym same) (decide (path_before f.path (first_fault h fs).path) refl hf least)
-      where
-        decide : (b : Bool) → path_before f.path (first_fault h fs).path ≡ b → path_before h.path f.path ≡ true → path_before h.path (first_fault h fs).path ≡ false → path_before f.path (first_fault h fs).path ≡ false
-        decide true d hf least = absurd (cc (sym least ∙ before_on h.path f.path (first_fault h fs).path hf d))
-        decide false d hf least = d
+        subst (λ (w : FaultRun). fault_before w (first_fault h fs) ≡ false) (sym same) (not_sooner f h (first_fault h fs) e (other h (inl refl)))
     by false e mine other (inl same) = mine g (inl same)
     by false e mine other (inr (inr j)) = mine g (inr j)
     by false e mine other (inr (inl same)) =
-        let hf : path_before h.path f.path ≡ false = sym (by_paths h f (calls h (inr (inl refl))) (calls f (inl refl))) ∙ e in
-        let least = mine f (inl refl) in
-        subst (λ (w : FaultRun). path_before w.path (first_fault f fs).path ≡ false) (sym same) (decide (path_before h.path (first_fault f fs).path) refl (path_before f.path h.path) refl hf least)
+        subst (λ (w : FaultRun). fault_before w (first_fault f fs) ≡ false) (sym same) (through (first_fault f fs) (first_in f fs) (mine f (inl refl)))
       where
-        decide : (b : Bool) → path_before h.path (first_fault f fs).path ≡ b → (c : Bool) → path_before f.path h.path ≡ c → path_before h.path f.path ≡ false → path_before f.path (first_fault f fs).path ≡ false → path_before h.path (first_fault f fs).path ≡ false
-        decide false d c e' hf least = d
-        decide true d true e' hf least = absurd (cc (sym least ∙ before_on f.path h.path (first_fault f fs).path e' d))
-        decide true d false e' hf least =
-            let same = neither_before h.path f.path hf e' in
-            absurd (cc (sym least ∙ subst (λ (w : List ℕ). path_before w (first_fault f fs).path ≡ true) same d))
+        -- what is not before f is not before the least, which is f or before it
+        through : (w : FaultRun) → In w (f ∷ fs) → fault_before f w ≡ false → fault_before h w ≡ false
+        through w there least = decide (fault_before h w) refl (fault_before w f) refl
+          where
+            decide : (b : Bool) → fault_before h w ≡ b → (c : Bool) → fault_before w f ≡ c → b ≡ false
+            decide false d c e' = refl
+            decide true d true e' = absurd (cc (sym e ∙ fault_on h w f d e'))
+            decide true d false e' =
+                let same = neither_fault w f e' least in
+                absurd (cc (sym e ∙ view_before h f (moved h w f same (before_view h w d))))
 
--- two lists of the same faults, at most one a path, come to the same
-pub same_fault : (store : List ℕ) (fs gs : List FaultRun) → ((f : FaultRun) → In f fs → OfCall f)
-    → ((f g : FaultRun) → In f fs → In g fs → f.path ≡ g.path → f ≡ g)
+-- two lists of the same faults, at most one a path and index, come to the same
+pub same_fault : (store : List ℕ) (fs gs : List FaultRun)
+    → ((f g : FaultRun) → In f fs → In g fs → f.path ≡ g.path → f.index ≡ g.index → f ≡ g)
     → ((f : FaultRun) → In f fs → In f gs) → ((f : FaultRun) → In f gs → In f fs)
     → fault_or_rows store fs ≡ fault_or_rows store gs
-same_fault store [] [] calls one to from = refl
-same_fault store [] (g ∷ gs) calls one to from = absurd (from g (inl refl))
-same_fault store (f ∷ fs) [] calls one to from = absurd (to f (inl refl))
-same_fault store (f ∷ fs) (g ∷ gs) calls one to from =
+same_fault store [] [] one to from = refl
+same_fault store [] (g ∷ gs) one to from = absurd (from g (inl refl))
+same_fault store (f ∷ fs) [] one to from = absurd (to f (inl refl))
+same_fault store (f ∷ fs) (g ∷ gs) one to from =
     let a = first_in f fs in
-    let b = first_in g gs in
-    let b' = from (first_fault g gs) b in
-    ap O.Fault (one (first_fault f fs) (first_fault g gs) a b'
-    (neither_before (first_fault f fs).path (first_fault g gs).path
-    (first_least g gs (λ u j. calls u (from u j)) (first_fault f fs) (to (first_fault f fs) a))
-    (first_least f fs calls (first_fault g gs) b')))
+    let b = from (first_fault g gs) (first_in g gs) in
+    let same = neither_fault (first_fault f fs) (first_fault g gs) (first_least g gs (first_fault f fs) (to (first_fault f fs) a)) (first_least f fs (first_fault g gs) b) in
+    ap O.Fault (one (first_fault f fs) (first_fault g gs) a b same.0 same.1)

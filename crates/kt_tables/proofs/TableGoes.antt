@@ -1,5 +1,5 @@
 -- While main is not finished some event of a lawful table can be done.
-use Rattle.std.proofs.Common.{◌≡◌, ◌<◌, ◌≤◌, ◌+◌, ℕ, zero, suc, Bool, true, false, List, [], ◌∷◌, ◌++◌, map, length, take, Option, Some, None, ◌⊎◌, inl, inr, refl, sym, ap, subst, ◌∙◌, arith, slice_get, ◌&&◌, ◌||◌, not, option_map}
+use Rattle.std.proofs.Common.{◌≡◌, ◌<◌, ◌≤◌, ◌+◌, ℕ, zero, suc, Bool, true, false, List, [], ◌∷◌, ◌++◌, map, length, take, Option, Some, None, ◌⊎◌, inl, inr, refl, sym, ap, subst, ◌∙◌, arith, slice_get, ◌&&◌, ◌||◌, not, nat_lt, option_map}
 use Rattle.std.proofs.lemmas.List.{map-append}
 use Rattle.std.proofs.lemmas.Option.{same_Some, slice_get_within}
 use Rattle.kt_law.specs.declared.limits.TheConstants.{DEPTH}
@@ -16,23 +16,37 @@ use Rattle.kt_order.specs.Named.{count_of}
 use Rattle.kt_order.proofs.Ats.{at_says, at_more, at_shape}
 use Rattle.kt_order.proofs.PathsAt.{tree_at}
 use Rattle.kt_order.proofs.PathGoes.{Goes, some_goes}
+use Rattle.kt_order.proofs.PathThere.{there_child}
+use Rattle.kt_order.proofs.Squares.{same_is}
+use Rattle.kt_prog.specs.Calls.{Whole}
+use Rattle.kt_prog.specs.Laws.{BodiesKeep, LoopsAreDirect}
+use Rattle.kt_prog.specs.Operations.{is_loop_at, IsNext}
+use Rattle.kt_prog.specs.Accepted.{IsAccepted}
 use Rattle.kt_prog.specs.Reference.{machine_of}
 use Rattle.kt_prog.specs.declared.programs.Program.{Program}
 use Rattle.kt_prog.specs.declared.runs.Operation.{Operation}
 use Rattle.kt_prog.specs.declared.runs.Operation.TheVariants as O
 use Rattle.kt_runs.specs.Rights.{rights_in}
 use Rattle.kt_runs.specs.States.{most_tasks}
-use Rattle.kt_tables.specs.Tables.{TaskRow, TaskTable, MainIsFinished, parent_of, is_root, is_child, are_siblings, is_finished, is_open, first_from, open_before, open_child}
-use Rattle.kt_tables.specs.TableEvents.{CanAsk, FindsRoom, IsDue, is_unclaimed, is_running, is_looping, is_ended, wants, refusal, refusal_at}
-use Rattle.kt_tables.specs.TableLaws.{HasNoLoops, phase_of, as_task, tasks_by_path, Leads, IsLawfulTable}
+use Rattle.kt_tables.specs.Tables.{IndexRow, LoopPart, TaskRow, TaskTable, MainIsFinished, parent_of, is_root, is_child, are_siblings, is_finished, is_open, first_from, open_before, open_child}
+use Rattle.kt_tables.specs.TableEnabled.{CanHappen}
+use Rattle.kt_tables.specs.TableEvents.{task_of, Finds, NothingIsNext, IsIndexDue, Suits, unless, or_else, CanAsk, FindsRoom, IsDue, is_unclaimed, is_looping, is_ended, wants, refusal, refusal_at}
+use Rattle.kt_tables.specs.TableLaws.{phase_of, has_begun, as_task, tasks_by_path, Leads, Stands, as_row, as_child, IsLawfulTable}
 use Rattle.kt_tables.specs.declared.events.Event.{Event}
 use Rattle.kt_tables.specs.declared.events.Event.TheVariants as E
 use Rattle.kt_tables.specs.declared.events.Phase.{Phase}
 use Rattle.kt_tables.specs.declared.events.Phase.TheVariants as P
 use Rattle.kt_tables.specs.declared.events.Why.{Why}
 use Rattle.kt_tables.specs.declared.events.Why.TheVariants as W
+use Rattle.kt_tables.specs.declared.events.Stand.TheVariants as S
 use Rattle.kt_tables.proofs.TableListed.{same_or_other}
-use Rattle.kt_tables.proofs.TableEntries.{same_path_is, map_suc_same, task_is}
+use Rattle.kt_tables.proofs.TableRows.{mapped_is}
+use Rattle.kt_tables.proofs.TablePaths.{get_is}
+use Rattle.kt_tables.proofs.TableTests.{unrefused}
+use Rattle.kt_tables.proofs.TableSteps.{none_added, was_open}
+use Rattle.kt_tables.proofs.LoopSteps.{retire_can}
+use Rattle.kt_tables.proofs.Full.{begun_by}
+use Rattle.kt_tables.proofs.NextOfLoop.{goes_or_begins, index_goes_on, loop_goes_on}
 use Rattle.kt_tables.proofs.TableDone.{phase_finished}
 use Rattle.kt_tables.proofs.TableNext.{next_of}
 
@@ -106,14 +120,14 @@ siblings_cut q r e =
     let b = both (not (is_root (map suc r))) (same_path (parent_of (map suc q)) (parent_of (map suc r))) a.1 in
     let one = last_cut q (ap not (sym (root_suc q)) ∙ a.0) in
     let two = last_cut r (ap not (sym (root_suc r)) ∙ b.0) in
-    let same = map_suc_same (parent_of q) (parent_of r) (sym (parent_suc q) ∙ (same_path_is (parent_of (map suc q)) (parent_of (map suc r)) b.1 ∙ parent_suc r)) in
+    let same = mapped_is (parent_of q) (parent_of r) (sym (parent_suc q) ∙ (same_is (parent_of (map suc q)) (parent_of (map suc r)) b.1 ∙ parent_suc r)) in
     (parent_of r, one.0, two.0, one.1 ∙ ap (λ l. l ++ one.0 ∷ []) same, two.1)
 
 child_cut : (q r : List ℕ) → is_child (map suc q) (map suc r) ≡ true → (k : ℕ) × (r ≡ q ++ k ∷ [])
 child_cut q r e =
     let a = both (not (is_root (map suc r))) (same_path (parent_of (map suc r)) (map suc q)) e in
     let one = last_cut r (ap not (sym (root_suc r)) ∙ a.0) in
-    let same = map_suc_same (parent_of r) q (sym (parent_suc r) ∙ same_path_is (parent_of (map suc r)) (map suc q) a.1) in
+    let same = mapped_is (parent_of r) q (sym (parent_suc r) ∙ same_is (parent_of (map suc r)) (map suc q) a.1) in
     (one.0, one.1 ∙ ap (λ l. l ++ one.0 ∷ []) same)
 
 suc_last : (q : List ℕ) (k : ℕ) → map suc (q ++ k ∷ []) ≡ map suc q ++ suc k ∷ []
@@ -176,7 +190,7 @@ module _ (p : Program) (input : List ℕ) (x : TaskTable) (lawful : IsLawfulTabl
     -- a row at the path of a finished task is not open
     shut : (i : ℕ) (u : TaskRow) (o : List ℕ) → slice_get x.tasks i ≡ Some u → u.path ≡ map suc o → (get o).phase ≡ order.Finished → is_open u ≡ true → ⊥
     shut i u o e h fin unshut =
-        finished_shut u.phase (phase_finished u.phase (sym (ap (λ (w : Task (machine_of p)). w.phase) (task_is p input x lawful i u o e h)) ∙ fin)) unshut
+        finished_shut u.phase (phase_finished u.phase (sym (ap (λ (w : Task (machine_of p)). w.phase) (get_is p x.tasks lawful.rows.once i u e o h)) ∙ fin)) unshut
 
     apart_by : (i : ℕ) (u : TaskRow) (o parent : List ℕ) (a b : ℕ) → i < t → slice_get x.tasks i ≡ Some u → u.path ≡ map suc o → o ≡ parent ++ a ∷ []
         → q ≡ parent ++ b ∷ [] → Earlier (machine_of p) (λ u v. u.phase ≡ order.Finished) q get → is_open u ≡ true → (a < b) ⊎ ((a ≡ b) ⊎ (b < a)) → ⊥
@@ -186,7 +200,7 @@ module _ (p : Program) (input : List ℕ) (x : TaskTable) (lawful : IsLawfulTabl
         (earlier_says (machine_of p) (λ u v. u.phase ≡ order.Finished) parent b get (subst (λ (l : List ℕ). Earlier (machine_of p) (λ u v. u.phase ≡ order.Finished) l get) two earlier) a lt)) unshut
     apart_by i u o parent a b before e named one two earlier unshut (inr (inl same)) =
         let paths : u.path ≡ r.path = named ∙ (ap (map suc) one ∙ (ap (λ (k : ℕ). map suc (parent ++ k ∷ [])) same ∙ (ap (map suc) (sym two) ∙ sym path))) in
-        let place = lawful.once i t u r e at paths in
+        let place = lawful.rows.once i t u r e at paths in
         omega arith
     apart_by i u o parent a b before e named one two earlier unshut (inr (inr gt)) =
         let less = lawful.order t i r u at e (map suc parent) (suc b) (suc a) (path ∙ (ap (map suc) two ∙ suc_last parent b)) (named ∙ (ap (map suc) one ∙ suc_last parent a)) (omega arith) in
@@ -200,7 +214,7 @@ module _ (p : Program) (input : List ℕ) (x : TaskTable) (lawful : IsLawfulTabl
       where
         fails : (i : ℕ) (u : TaskRow) → (i < t) × (slice_get x.tasks i ≡ Some u) → (are_siblings u.path r.path ≡ true) × (is_open u ≡ true) → ⊥
         fails i u front h =
-            let other = lawful.there i u front.1 in
+            let other = lawful.rows.there i u front.1 in
             let cut = siblings_cut other.0 q (subst (λ (l : List ℕ). are_siblings l (map suc q) ≡ true) other.1 (subst (λ (l : List ℕ). are_siblings u.path l ≡ true) path h.0)) in
             apart_by i u other.0 cut.0 cut.1 cut.2 front.0 front.1 other.1 cut.3 cut.4 earlier h.1 (order_of cut.1 cut.2)
 
@@ -212,38 +226,49 @@ module _ (p : Program) (input : List ℕ) (x : TaskTable) (lawful : IsLawfulTabl
     )
 
     -- its children are not open
-    none_below : AllFinished (machine_of p) (children_at (machine_of p) DEPTH q get count) → open_child r x.tasks ≡ None
+    none_below : AllFinished (machine_of p) (children_at (machine_of p) (suc DEPTH) q get count) → open_child r x.tasks ≡ None
     none_below all =
         none_passes (λ (u : TaskRow). is_child r.path u.path && is_open u) x.tasks 0
         (λ i u e. is_false (is_child r.path u.path && is_open u) (λ h. fails i u e (both (is_child r.path u.path) (is_open u) h)))
       where
         fails : (i : ℕ) (u : TaskRow) → slice_get x.tasks i ≡ Some u → (is_child r.path u.path ≡ true) × (is_open u ≡ true) → ⊥
         fails i u e h =
-            let other = lawful.there i u e in
+            let other = lawful.rows.there i u e in
             let cut = child_cut q other.0 (subst (λ (l : List ℕ). is_child (map suc q) l ≡ true) other.1 (subst (λ (l : List ℕ). is_child l u.path ≡ true) path h.0)) in
             let named : u.path ≡ map suc (q ++ cut.0 ∷ []) = other.1 ∙ ap (map suc) cut.1 in
             let there : Leads p x.tasks (q ++ cut.0 ∷ []) = subst (λ (l : List ℕ). Leads p x.tasks l) cut.1 other.2 in
-            shut i u (q ++ cut.0 ∷ []) e named (below_says (machine_of p) (λ u. u.phase ≡ order.Finished) DEPTH q get count cut.0 all there) h.1
+            shut i u (q ++ cut.0 ∷ []) e named (below_says (machine_of p) (λ u. u.phase ≡ order.Finished) (suc DEPTH) q get count cut.0 all there) h.1
 
-    finishes : (is_ended r.phase || is_looping r.phase) ≡ true → AllFinished (machine_of p) (children_at (machine_of p) DEPTH q get count) → Goal
+    finishes : r.phase ≡ P.Ended → AllFinished (machine_of p) (children_at (machine_of p) (suc DEPTH) q get count) → Goal
     finishes over all = (
       E.Finish t,
       record { there = slice_get_within x.tasks t r at; suits = λ s e. tt },
-      not_refused (E.Finish t) t r at (no_reason (λ ph. is_ended ph || is_looping ph) r.phase (option_map W.Child (open_child r x.tasks)) over (ap (option_map W.Child) (none_below all))),
+      not_refused (E.Finish t) t r at (no_reason (λ ph. is_ended ph || is_looping ph) r.phase
+          (or_else (option_map W.Child (open_child r x.tasks)) (unless (not (nat_lt 0 r.loop.unretired)) (W.Left r.loop.unretired))) (ap (λ (ph : Phase). is_ended ph || is_looping ph) over) (no_causes (none_below all) none_left)),
     )
+      where
+        plain : (b : Bool) → has_begun p r ≡ b → r.loop.unretired ≡ 0
+        plain true begun = absurd (cc (sym begun ∙ ap (λ (ph : Phase). (is_looping ph || is_finished ph) && is_loop_at p r.call.task) over))
+        plain false none = ap (λ (k : LoopPart). k.unretired) ((lawful.rows.loops t r at).other none)
+
+        none_left : r.loop.unretired ≡ 0
+        none_left = plain (has_begun p r) refl
+
+        no_causes : open_child r x.tasks ≡ None → r.loop.unretired ≡ 0 → or_else (option_map W.Child (open_child r x.tasks)) (unless (not (nat_lt 0 r.loop.unretired)) (W.Left r.loop.unretired)) ≡ None
+        no_causes a b = rw (a, b) refl
 
     -- where the body of a running task stands
-    abbrev Stands : Type 0
-    Stands = (rights_in p).Fits (get q).call × (st : Standing (machine_of p)) × (standing (machine_of p) (get q) ≡ Some st) × ((get q).phase ≡ order.Running → st.over ≡ false)
+    abbrev BodyStands : Type 0
+    BodyStands = (rights_in p).Fits (get q).call × (st : Standing (machine_of p)) × (standing (machine_of p) (get q) ≡ Some st) × ((get q).phase ≡ order.Running → st.over ≡ false)
 
-    stands : Leads p x.tasks q → Stands
+    stands : Leads p x.tasks q → BodyStands
     stands there =
-        let F = tree_of (machine_of p) DEPTH get count in
-        at_says (machine_of p) Stands (place_of q) F
-        (at_more (machine_of p) (λ u kids. (u ≡ get q) × TaskOk (machine_of p) (rights_in p) u kids) (λ u kids. Stands) (λ u kids h. says u kids h.0 h.1) (place_of q) F
-        (at_shape (machine_of p) (rights_in p) (λ u kids. u ≡ get q) (place_of q) F lawful.lawful.shape (tree_at (machine_of p) (λ u kids. u ≡ get q) DEPTH get count q there refl)))
+        let F = tree_of (machine_of p) (suc DEPTH) get count in
+        at_says (machine_of p) BodyStands (place_of q) F
+        (at_more (machine_of p) (λ u kids. (u ≡ get q) × TaskOk (machine_of p) (rights_in p) u kids) (λ u kids. BodyStands) (λ u kids h. says u kids h.0 h.1) (place_of q) F
+        (at_shape (machine_of p) (rights_in p) (λ u kids. u ≡ get q) (place_of q) F lawful.rows.lawful.shape (tree_at (machine_of p) (λ u kids. u ≡ get q) (suc DEPTH) get count q there refl)))
       where
-        says : (u : Task (machine_of p)) (kids : Forest (machine_of p)) → u ≡ get q → TaskOk (machine_of p) (rights_in p) u kids → Stands
+        says : (u : Task (machine_of p)) (kids : Forest (machine_of p)) → u ≡ get q → TaskOk (machine_of p) (rights_in p) u kids → BodyStands
         says u kids same ok = (
           subst (λ (v : Task (machine_of p)). (rights_in p).Fits v.call) same ok.fits,
           ok.st,
@@ -251,42 +276,135 @@ module _ (p : Program) (input : List ℕ) (x : TaskTable) (lawful : IsLawfulTabl
           λ e. (let running : u.phase ≡ order.Running = ap (λ (v : Task (machine_of p)). v.phase) same ∙ e in subst (λ ph. PhaseOk (machine_of p) ph u ok.st kids) running ok.phase),
         )
 
-    module _ (l : Laws (machine_of p) (rights_in p)) (loops : HasNoLoops p) (room : length x.tasks < most_tasks) where
-      goes_on : r.phase ≡ P.Running → Leads p x.tasks q → Goal
-      goes_on running there =
-          let same = task_is p input x lawful t r q at path in
+    -- what happens is not refused
+    asks : (e : Event) → task_of e ≡ t → CanHappen e r x.tasks → ((s : TaskRow) → slice_get x.tasks t ≡ Some s → Suits p e s x) → Goal
+    asks e same can suits = (
+      e,
+      record { there = subst (λ (u : ℕ). u < length x.tasks) (sym same) (slice_get_within x.tasks t r at); suits = λ s got. suits s (ap (slice_get x.tasks) (sym same) ∙ got) },
+      subst (λ (o : Option TaskRow). refusal_at e o x.tasks ≡ None) (sym (ap (slice_get x.tasks) same ∙ at)) (unrefused r x.tasks e can),
+    )
+
+    only_row : (Q : TaskRow → Type 0) → Q r → (s : TaskRow) → slice_get x.tasks t ≡ Some s → Q s
+    only_row Q h s got = subst Q (same_Some r s (sym at ∙ got)) h
+
+    module _ (l : Laws (machine_of p) (rights_in p)) (bodies : BodiesKeep) (direct : LoopsAreDirect) (ok : IsAccepted p) (room : length x.tasks < most_tasks) where
+      -- the operation that is next is asked for
+      body : r.phase ≡ P.Running → (op : Operation) → Finds p x.store op → IsNext p (Whole r.call) r.answers r.done op → Goal
+      body running op finds next =
+          asks (E.Body t op) refl running (only_row (λ s. s.phase ≡ P.Running → IsDue p op s x) (λ _. record { next = next; finds = finds; room = room_for x.tasks room op }))
+
+      goes_plain : r.phase ≡ P.Running → is_loop_at p r.call.task ≡ false → Leads p x.tasks q → Goal
+      goes_plain running plain there =
+          let same = get_is p x.tasks lawful.rows.once t r at q path in
           let s = stands there in
           let fits : (rights_in p).Fits (as_task p r).call = subst (λ (v : Task (machine_of p)). (rights_in p).Fits v.call) same s.0 in
           let is : standing (machine_of p) (as_task p r) ≡ Some s.1 = subst (λ (v : Task (machine_of p)). standing (machine_of p) v ≡ Some s.1) same s.2 in
           let on = s.3 (ap (λ (v : Task (machine_of p)). v.phase) same ∙ ap phase_of running) in
-          let next = next_of p loops x.store _ (as_task p r).call _ r.call r.path r.answers r.done s.1 (l.within (as_task p r).call fits) is on in
-          let due : IsDue p next.0 r x = record { next = next.2; finds = next.1; room = room_for x.tasks room next.0 } in (
-            E.Body t next.0,
-            record {
-              there = slice_get_within x.tasks t r at;
-              suits = λ v e _. subst (λ (w : TaskRow). IsDue p next.0 w x) (same_Some r v (sym at ∙ e)) due;
-            },
-            not_refused (E.Body t next.0) t r at (no_reason is_running r.phase None (ap is_running running) refl),
-          )
+          let next = next_of p bodies ok x.store r.call r.path r.answers (as_task p r).done s.1 fits plain is on in
+          body running next.0 next.1 (subst (λ (n : ℕ). IsNext p (Whole r.call) r.answers n next.0) (none_added p input l x lawful t r at r (was_open p input l x lawful t r at running)) next.2)
 
-  module _ (l : Laws (machine_of p) (rights_in p)) (loops : HasNoLoops p) (room : length x.tasks < most_tasks) where
-    at_path : (q : List ℕ) → Leads p x.tasks q → Goes (machine_of p) DEPTH get count q → Goal
-    at_path q there goes =
-        let a = lawful.all q there in
-        by a.0 a.1 a.2 a.3 (ap (λ (v : Task (machine_of p)). v.phase) (sym (task_is p input x lawful a.0 a.1 q a.2 a.3))) goes
+      goes_loop : r.phase ≡ P.Running → is_loop_at p r.call.task ≡ true → Goal
+      goes_loop running loop = elim (goes_or_begins p input l bodies direct ok x lawful.rows t r at loop running) [
+        | inl n ↦ body running n.0 n.1.0 n.1.1
+        | inr done ↦ asks (E.Begin t) refl running (only_row (λ s. (is_loop_at p s.call.task ≡ true) × (s.phase ≡ P.Running → NothingIsNext p s)) (loop, λ _. done.1))
+      ]
+
+      goes_on : r.phase ≡ P.Running → Leads p x.tasks q → Goal
+      goes_on running there = by (is_loop_at p r.call.task) refl
+        where
+          by : (b : Bool) → is_loop_at p r.call.task ≡ b → Goal
+          by true loop = goes_loop running loop
+          by false plain = goes_plain running plain there
+
+      -- a loop that loops takes an index, goes on with one, retires one, or finishes
+      loops_on : r.phase ≡ P.Looping → Goal
+      loops_on looping =
+          let loop = (lawful.rows.loops t r at).looping looping in
+          elim (loop_goes_on p input l bodies direct ok x lawful.rows t r at loop looping) [
+            | inl take ↦ asks (E.Take t take.0 1) refl (looping, omega arith, take.1) (λ s e. tt)
+            | inr (inl i) ↦
+                (let due = index_goes_on p input l bodies direct ok x lawful.rows t r at loop looping i.0 i.1 i.2 i.3 in
+                asks (E.Index t i.0 due.0) refl (looping, (i.1, i.2, i.3))
+                (only_row (λ s. s.phase ≡ P.Looping → (v : IndexRow) → slice_get s.loop.indexes i.0 ≡ Some v → v.stand ≡ S.Taken → IsIndexDue p i.0 due.0 v s x)
+                (λ _ v got taken. subst (λ (w : IndexRow). IsIndexDue p i.0 due.0 w r x) (same_Some i.1 v (sym i.2 ∙ got)) due.1)))
+            | inr (inr (inl can)) ↦ asks (E.Retire t 1) refl (looping, omega arith, retire_can p input l bodies direct ok x lawful t r at loop looping 1 can) (λ s e. tt)
+            | inr (inr (inr none)) ↦
+                asks (E.Finish t) refl (inr looping, (λ u s got child. absurd (cc (child, lawful.rows.childless t r at loop u s got))), none) (λ s e. tt)
+          ]
+
+    -- the children of a finished task are finished
+    child_finished : r.phase ≡ P.Finished → (k : ℕ) → Leads p x.tasks q → Leads p x.tasks (q ++ k ∷ []) → (get (q ++ k ∷ [])).phase ≡ order.Finished
+    child_finished done k there below =
+        let F = tree_of (machine_of p) (suc DEPTH) get count in
+        let K = children_at (machine_of p) (suc DEPTH) q get count in
+        let A = λ (u : Task (machine_of p)) (kids : Forest (machine_of p)). (u ≡ get q) × (kids ≡ K) in
+        let all : AllFinished (machine_of p) K =
+        at_says (machine_of p) (AllFinished (machine_of p) K) (place_of q) F
+        (at_more (machine_of p) (λ u kids. A u kids × TaskOk (machine_of p) (rights_in p) u kids) (λ u kids. AllFinished (machine_of p) K) (λ u kids h. says u kids h.0.0 h.0.1 h.1) (place_of q) F
+        (at_shape (machine_of p) (rights_in p) A (place_of q) F lawful.rows.lawful.shape (tree_at (machine_of p) A (suc DEPTH) get count q there (refl, refl)))) in
+        below_says (machine_of p) (λ u. u.phase ≡ order.Finished) (suc DEPTH) q get count k all below
       where
-        by : (t : ℕ) (r : TaskRow) (at : slice_get x.tasks t ≡ Some r) (path : r.path ≡ map suc q) → phase_of r.phase ≡ (get q).phase
-            → Goes (machine_of p) DEPTH get count q → Goal
-        by t r at path same (inl h) = claims t r at q path (phase_unclaimed r.phase (same ∙ h.0)) h.1
-        by t r at path same (inr (inl h)) = goes_on t r at q path l loops room (phase_running r.phase (same ∙ h)) there
-        by t r at path same (inr (inr h)) = finishes t r at q path (phase_over r.phase (same ∙ h.0)) h.1
+        says : (u : Task (machine_of p)) (kids : Forest (machine_of p)) → u ≡ get q → kids ≡ children_at (machine_of p) (suc DEPTH) q get count → TaskOk (machine_of p) (rights_in p) u kids
+            → AllFinished (machine_of p) (children_at (machine_of p) (suc DEPTH) q get count)
+        says u kids same is ok =
+            let phase : u.phase ≡ order.Finished = ap (λ (v : Task (machine_of p)). v.phase) (same ∙ get_is p x.tasks lawful.rows.once t r at q path) ∙ ap phase_of done in
+            subst (AllFinished (machine_of p)) is (subst (λ ph. PhaseOk (machine_of p) ph u ok.st kids) phase ok.phase).1
+
+  not_finished : (q : List ℕ) → Goes (machine_of p) (suc DEPTH) get count q → (get q).phase ≡ order.Finished → ⊥
+  not_finished q (inl h) fin = no_unclaimed (sym h.0 ∙ fin)
+    where
+      no_unclaimed : order.Unclaimed ≡ order.Finished → ⊥
+      no_unclaimed e = cc
+  not_finished q (inr (inl h)) fin = no_running (sym h ∙ fin)
+    where
+      no_running : order.Running ≡ order.Finished → ⊥
+      no_running e = cc
+  not_finished q (inr (inr h)) fin = no_ended (sym h.0 ∙ fin)
+    where
+      no_ended : order.Ended ≡ order.Finished → ⊥
+      no_ended e = cc
+
+  module _ (l : Laws (machine_of p) (rights_in p)) (bodies : BodiesKeep) (direct : LoopsAreDirect) (ok : IsAccepted p) (room : length x.tasks < most_tasks) where
+    at_path : (q : List ℕ) → Leads p x.tasks q → Goes (machine_of p) (suc DEPTH) get count q → Goal
+    at_path q there goes = by (lawful.all q there)
+      where
+        ended_or : (ph : Phase) → phase_of ph ≡ order.Ended → (ph ≡ P.Ended) ⊎ (ph ≡ P.Looping)
+        ended_or P.Unclaimed e = absurd (cc e)
+        ended_or P.Running e = absurd (cc e)
+        ended_or P.Looping e = inr refl
+        ended_or P.Ended e = inl refl
+        ended_or P.Finished e = absurd (cc e)
+
+        row : (t : ℕ) (r : TaskRow) (at : slice_get x.tasks t ≡ Some r) (path : r.path ≡ map suc q) → phase_of r.phase ≡ (get q).phase
+            → Goes (machine_of p) (suc DEPTH) get count q → Goal
+        row t r at path same (inl h) = claims t r at q path (phase_unclaimed r.phase (same ∙ h.0)) h.1
+        row t r at path same (inr (inl h)) = goes_on t r at q path l bodies direct ok room (phase_running r.phase (same ∙ h)) there
+        row t r at path same (inr (inr h)) = elim (ended_or r.phase (same ∙ h.0)) [
+          | inl ended ↦ finishes t r at q path ended h.1
+          | inr looping ↦ loops_on t r at q path l bodies direct ok room looping
+        ]
+
+        child : (t : ℕ) (r : TaskRow) (at : slice_get x.tasks t ≡ Some r) (home : List ℕ) (i : ℕ) → r.path ≡ map suc home → q ≡ home ++ i ∷ [] → (ph : Phase) → r.phase ≡ ph
+            → has_begun p r ≡ true → Goal
+        child t r at home i path is P.Looping phase begun = loops_on t r at home path l bodies direct ok room phase
+        child t r at home i path is P.Finished phase begun =
+            let below = subst (Leads p x.tasks) is there in
+            let above = (there_child (suc DEPTH) count home i below).0 in
+            absurd (not_finished q goes (subst (λ (z : List ℕ). (get z).phase ≡ order.Finished) (sym is) (child_finished t r at home path phase i above below)))
+        child t r at home i path is P.Unclaimed phase begun = absurd (cc (sym begun ∙ ap (λ (ph : Phase). (is_looping ph || is_finished ph) && is_loop_at p r.call.task) phase))
+        child t r at home i path is P.Running phase begun = absurd (cc (sym begun ∙ ap (λ (ph : Phase). (is_looping ph || is_finished ph) && is_loop_at p r.call.task) phase))
+        child t r at home i path is P.Ended phase begun = absurd (cc (sym begun ∙ ap (λ (ph : Phase). (is_looping ph || is_finished ph) && is_loop_at p r.call.task) phase))
+
+        by : Stands p x.tasks q → Goal
+        by (as_row t r at path) = row t r at path (ap (λ (v : Task (machine_of p)). v.phase) (sym (get_is p x.tasks lawful.rows.once t r at q path))) goes
+        by (as_child t r home i v at path is index) = child t r at home i path is r.phase refl (begun_by p input l bodies direct ok x lawful.rows t r at i v index)
 
     main_done : (get []).phase ≡ order.Finished → MainIsFinished x.tasks
     main_done fin r e =
-        phase_finished r.phase (sym (ap (λ (v : Task (machine_of p)). v.phase) (task_is p input x lawful 0 r [] e (lawful.main r e))) ∙ fin)
+        phase_finished r.phase (sym (ap (λ (v : Task (machine_of p)). v.phase) (get_is p x.tasks lawful.rows.once 0 r e [] (lawful.main r e))) ∙ fin)
 
     pub some_event : (MainIsFinished x.tasks → ⊥) → Goal
-    some_event unshut = elim (some_goes (machine_of p) DEPTH get count) [
+    some_event unshut = elim (some_goes (machine_of p) (suc DEPTH) get count) [
       | inl fin ↦ absurd (unshut (main_done fin))
       | inr go ↦ at_path go.0 go.1 go.2
     ]

@@ -1,6 +1,7 @@
 -- The core as a table: the store, and the tasks in the order of their forks. Task 0 is main. What each event asks and does is said
 -- of the table; what it means is the state of the theory that the table shows.
-use Rattle.std.specs.Prelude.{◌≡◌, ℕ, suc, List, [], ◌∷◌, ◌++◌, take, Bool, true, false, cond, Option, Some, None, ◌&&◌, not, option_map, slice_get}
+use Rattle.std.specs.Prelude.{◌≡◌, ℕ, suc, ◌+◌, List, [], ◌∷◌, ◌++◌, length, replicate, take, Bool, true, false, cond, Option, Some, None, ◌&&◌, not, option_map, slice_get}
+use Rattle.kt_order.specs.Books.{Piece, one_piece}
 use Rattle.kt_order.specs.Paths.{same_path}
 use Rattle.kt_prog.specs.Calls.{CallTree, main_call}
 use Rattle.kt_prog.specs.Runs.{FaultRun}
@@ -11,6 +12,25 @@ use Rattle.kt_runs.specs.Clash.{calls_clash}
 use Rattle.kt_tables.specs.declared.events.BodyFault.{BodyFault}
 use Rattle.kt_tables.specs.declared.events.Phase.{Phase}
 use Rattle.kt_tables.specs.declared.events.Phase.TheVariants as P
+use Rattle.kt_tables.specs.declared.events.Stand.{Stand}
+use Rattle.kt_tables.specs.declared.events.Stand.TheVariants as S
+
+-- an index of a loop
+pub record IndexRow : Type 0 where
+  pub stand : Stand
+  -- the numbers that its loads found, and how many operations it has done
+  pub answers : List ℕ
+  pub done : ℕ
+  -- the fault that ended its body
+  pub fault : Option Fault
+
+-- what a loop has besides a task, from its beginning on: its indexes in order, the pieces of those that are not taken, how many are
+-- not retired, and how many have ended of these
+pub record LoopPart : Type 0 where
+  pub indexes : List IndexRow
+  pub pieces : List Piece
+  pub unretired : ℕ
+  pub ended : ℕ
 
 -- a task
 pub record TaskRow : Type 0 where
@@ -22,14 +42,27 @@ pub record TaskRow : Type 0 where
   pub done : ℕ
   -- the fault that ended its body
   pub fault : Option Fault
+  -- empty where it is no loop, or one that has not begun
+  pub loop : LoopPart
 
 pub record TaskTable : Type 0 where
   pub store : List ℕ
   pub tasks : List TaskRow
 
+abbrev pub no_loop : LoopPart
+no_loop = record { indexes = []; pieces = []; unretired = 0; ended = 0 }
+
+-- an index that nobody has taken
+abbrev pub untaken_index : IndexRow
+untaken_index = record { stand = S.Untaken; answers = []; done = 0; fault = None }
+
+-- so many indexes in one piece, none of them retired
+abbrev pub whole_loop : ℕ → LoopPart
+whole_loop n = record { indexes = replicate n untaken_index; pieces = one_piece n; unretired = n; ended = 0 }
+
 -- a task that nobody has claimed
 abbrev pub fresh_row : List ℕ → CallTree → TaskRow
-fresh_row path call = record { path = path; call = call; phase = P.Unclaimed; answers = []; done = 0; fault = None }
+fresh_row path call = record { path = path; call = call; phase = P.Unclaimed; answers = []; done = 0; fault = None; loop = no_loop }
 
 -- main unclaimed, and the input in the store
 abbrev pub opening_table : Program → List ℕ → TaskTable
@@ -88,6 +121,11 @@ count_rows test (r ∷ rows) = cond (test r) (suc (count_rows test rows)) (count
 -- the path of the next child of r
 abbrev pub next_child : TaskRow → List TaskRow → List ℕ
 next_child r tasks = r.path ++ suc (count_rows (λ (u : TaskRow). is_child r.path u.path) tasks) ∷ []
+
+-- how many indexes the loops have that have begun
+abbrev pub count_indexes : List TaskRow → ℕ
+count_indexes [] = 0
+count_indexes (r ∷ rows) = length r.loop.indexes + count_indexes rows
 
 -- main is finished
 abbrev pub MainIsFinished : List TaskRow → Type 0

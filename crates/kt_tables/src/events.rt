@@ -15,6 +15,15 @@ pub enum Phase {
     Finished,
 }
 
+/// How far an index of a loop is.
+#[derive(Clone, Copy, Debug, PartialEq, Eq)]
+pub enum Stand {
+    Untaken,
+    Taken,
+    /// Its body has ended.
+    Over,
+}
+
 /// What may be done of a run. Each names a task by its number, in the order of the forks; `main` has number 0.
 #[derive(Debug, Drop)]
 pub enum Event {

@@ -5,4 +5,4 @@ mod events;
 pub mod laws;
 mod phases;
 
-pub use events::{BodyFault, Event, Phase, Why};
+pub use events::{BodyFault, Event, Phase, Stand, Why};
