@@ -161,6 +161,8 @@ fn by_events(
     let (program, input) = opened(alloc, trial.job)?;
     let (ran, core) = simulated(rt, alloc, &program, &input, workers, number)?;
     comes_to(rt, &ran, trial);
+    let tasks = core.tasks();
+    assert!(rt; tasks > 0);
     if !matches!(trial.wanted, Wanted::Limit) {
         assert!(rt; core.phase(0) == Phase::Finished && core.open_child(0).is_none());
     }

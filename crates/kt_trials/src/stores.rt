@@ -14,7 +14,8 @@ fn acts_change_one_element(rt: HostRuntime) -> Result<(), Fail> {
     let (program, input) = opened(alloc, FAMILIES)?;
     laws::few_objects();
     let wanted = inputs(&program) as usize;
-    assert!(rt; wanted == 8 && input.len() == wanted);
+    assert!(rt; wanted == input.len());
+    assert!(rt; wanted == 8);
     let mut store = PlainStore::open(alloc, &program, &input)?;
     assert!(rt; store.elements() == [1, 2, 3, 4, 5, 6, 0, 7, 8].as_slice());
     assert!(rt; store.program().families.len() == 3);

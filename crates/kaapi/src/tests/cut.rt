@@ -43,8 +43,10 @@ const CUTS: [Cut; 3] = [
 
 // One line, which tells of a refusal.
 fn is_refusal(text: &[u8]) -> bool {
-    text.starts_with(b"refused P")
-        && text.iter().position(|byte| *byte == b'\n') == Some(text.len() - 1)
+    let Some(end) = text.iter().position(|byte| *byte == b'\n') else {
+        return false;
+    };
+    text.starts_with(b"refused P") && text.len().saturating_sub(end) == 1
 }
 
 fn is_answered(

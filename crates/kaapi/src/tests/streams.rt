@@ -90,7 +90,7 @@ const ANSWERED: [Answered; 3] = [
 #[test]
 fn the_source_fails(rt: HostRuntime) -> Result<(), Fail> {
     for (words, job, text) in ANSWERED {
-        let reads = (job.len() as u64).div_ceil(10) + 1;
+        let reads = (job.len() as u64).saturating_add(9) / 10 + 1;
         for read_fails in 1..=reads {
             let streams = Streams {
                 read_fails,
