@@ -226,22 +226,25 @@ module _ (p : Program) where
           let w = whole_of (x.get q).call.job (hands_on_whole (x.get q).call c handed) in
           whole_room q there w.0 w.1
 
+      none_left : (q : Path) (forks : List Placed) (c : CallTree) (i : ℕ) → (x.get q).call.job ≡ Index c i
+          → EachFrom (machine_of p) (IsFork (x.get q).call.path (x.get q).call.job) 0 forks → length forks ≡ 0
+      none_left q [] c i is all = refl
+      none_left q (d ∷ forks) c i is all = absurd (subst (λ (job : Job). Forks p job d.job) is all.0.0)
+
+      pub no_children : (q : Path) → IsTask p x q → (c : CallTree) (i : ℕ) → (x.get q).call.job ≡ Index c i → counts p x q ≡ 0
+      no_children q there c i is =
+          let u = (x.get q).call in
+          task_law (counts p x q ≡ 0) q there (λ kids law.
+          ap (λ (o : Option (Standing (machine_of p))). length (forks_in (machine_of p) o)) law.stands
+          ∙ none_left q law.st.forks c i is (stand_from (machine_of p) (IsFork u.path u.job) 0 ((machine_of p).tree u) (x.get q).answers (x.get q).done law.st law.stands
+          (forks_are u.path u.job 0 (script_of p u.job) (bodies (λ w. w) p ok u.job law.fits))))
+
       pub child_room : (q : Path) (k : ℕ) → IsTask p x q → k < counts p x q → HasRoom levels q
       child_room q k there less = by_job (x.get q).call.job refl
         where
-          none_left : (forks : List Placed) (c : CallTree) (i : ℕ) → (x.get q).call.job ≡ Index c i → EachFrom (machine_of p) (IsFork (x.get q).call.path (x.get q).call.job) 0 forks → length forks ≡ 0
-          none_left [] c i is all = refl
-          none_left (d ∷ forks) c i is all = absurd (subst (λ (job : Job). Forks p job d.job) is all.0.0)
-
           by_job : (job : Job) → (x.get q).call.job ≡ job → HasRoom levels q
           by_job (Whole c) is = whole_room q there c is
-          by_job (Index c i) is =
-              let u = (x.get q).call in
-              let none : counts p x q ≡ 0 = task_law (counts p x q ≡ 0) q there (λ kids law.
-              ap (λ (o : _). length (forks_in (machine_of p) o)) law.stands
-              ∙ none_left law.st.forks c i is (stand_from (machine_of p) (IsFork u.path u.job) 0 ((machine_of p).tree u) (x.get q).answers (x.get q).done law.st law.stands
-              (forks_are u.path u.job 0 (script_of p u.job) (bodies (λ w. w) p ok u.job law.fits)))) in
-              absurd (omega (arith, none, less))
+          by_job (Index c i) is = let none = no_children q there c i is in absurd (omega (arith, none, less))
 
       pub children_there : (q : Path) (k : ℕ) → IsTask p x q → k < counts p x q → IsTask p x (child q k)
       children_there q k there less = child_there levels (counts p x) q k there less (child_room q k there less)

@@ -1,5 +1,6 @@
 -- The events of a core by paths keep it lawful.
-use Rattle.std.proofs.Common.{◌≡◌, ◌<◌, ◌≤◌, ℕ, zero, suc, List, [], ◌∷◌, length, map, Option, ◌⊎◌, inl, inr, refl, sym, ap, subst, ◌∙◌, arith}
+use Rattle.std.proofs.Common.{Bool, true, false, cond, ◌≡◌, ◌<◌, ◌≤◌, ℕ, zero, suc, List, [], ◌∷◌, length, map, Option, ◌⊎◌, inl, inr, refl, sym, ap, subst, ◌∙◌, arith}
+use mathlib.Core.Path.{fun_ext}
 use Rattle.kt_law.specs.Acts.{Act}
 use Rattle.kt_order.specs.Body.{Stop, Do, Fork}
 use Rattle.kt_order.specs.Machine.{Code}
@@ -7,11 +8,12 @@ use Rattle.kt_order.specs.Laws.{Laws}
 use Rattle.kt_order.specs.Forest.{Unclaimed, Running, Ended, Finished, Task, Forest, Nil, Node, fresh}
 use Rattle.kt_order.specs.Rest.{standing, left}
 use Rattle.kt_order.specs.Events.{put, in_phase, did, forked, ended, IsFinished, MayPass}
-use Rattle.kt_order.specs.Paths.{set_at, bump, IsThere, tree_of, Earlier}
+use Rattle.kt_order.specs.Paths.{same_path, set_at, bump, IsThere, tree_of, Earlier}
 use Rattle.kt_order.specs.Named.{forks_in}
 use Rattle.kt_order.proofs.Kept.{opens}
 use Rattle.kt_order.proofs.ByPaths.{kept_claim, kept_finish, kept_end, kept_do, kept_fork, forks_after_end, forks_after_do, forks_after_fork}
 use Rattle.kt_order.proofs.PathThere.{earlier_by, below_by}
+use Rattle.kt_order.proofs.PathChanges.{eq_self}
 use Rattle.kt_order.proofs.PathKids.{at_kids}
 use Rattle.kt_order.proofs.PathsAdd.{grown_none}
 use Rattle.kt_order.proofs.Squares.{count_kept, count_forked}
@@ -31,7 +33,7 @@ use Rattle.kt_runs.specs.Rights.{rights_in}
 use Rattle.kt_runs.specs.Theorems.{whole_at}
 use Rattle.kt_runs.specs.Bodies.{IsFirst}
 use Rattle.kt_runs.specs.States.{IsLawful}
-use Rattle.kt_runs.specs.ByPath.{Path, child, levels, ByPath, IsLawfulByPath, counts, IsTask, ActsNext, ForksNext, EndsNext, GoesOnBy, after_claim, after_act, after_end, after_fork, after_finish, StaysLawful, NoClash, IsPlacedAt}
+use Rattle.kt_runs.specs.ByPath.{Path, child, levels, ByPath, IsLawfulByPath, counts, IsTask, ActsNext, ForksNext, EndsNext, GoesOnBy, after_claim, after_act, after_end, after_fork, after_finish, after_end_and_finish, StaysLawful, NoClash, IsPlacedAt}
 use Rattle.kt_runs.proofs.Next.{next_is_first}
 use Rattle.kt_runs.proofs.Clashes.{apart_is_no_clash}
 use Rattle.kt_runs.proofs.Indexes.{two_apart}
@@ -196,3 +198,35 @@ module _ (p : Program) (input : List ℕ) (l : Laws (machine_of p) (rights_in p)
             let apart = two_apart p bodies direct ok (map suc z) call n i whole.2 long (λ e. let a : n ≡ i = e in omega (arith, a, number, less)) in
             inr (subst (λ (c : Placed). Apart (plan_of p) c (x.get q).call) (sym (λ t. record { path = other_path t; job = other_job t }))
             (subst (λ (c : Placed). Apart (plan_of p) (record { path = map suc z; job = Index call n }) c) (sym (λ t. record { path = path t; job = job t })) apart))
+
+  same_self : (q : Path) → same_path q q ≡ true
+  same_self [] = refl
+  same_self (k ∷ q) = rw (eq_self k) (same_self q)
+
+  child_other : (q : Path) (k : ℕ) → same_path (child q k) q ≡ false
+  child_other [] k = refl
+  child_other (j ∷ q) k = rw (eq_self j) (child_other q k)
+
+  module _ (x : ByPath p) (h : IsLawfulByPath p input x) where
+    -- an end, and then a finish
+    pub leaves : (q : Path) → IsTask p x q → (x.get q).phase ≡ Running → EndsNext p (x.get q)
+        → ((k : ℕ) → k < counts p x q → (x.get (child q k)).phase ≡ Finished) → StaysLawful p input x (after_end_and_finish p q x)
+    leaves q there run next kids =
+        let over = put (machine_of p) (ended (machine_of p)) (x.get q) in
+        let y = after_end p q x in
+        let one = ends x h q there run next in
+        let here : y.get q ≡ over = ap (λ (b : Bool). cond b over (x.get q)) (same_self q) in
+        let two = finishes y one.lawful q (subst (λ (n : Path → ℕ). IsThere levels n q) (sym one.same) there) (ap (λ (u : Task (machine_of p)). u.phase) here)
+        (λ k less. ap (λ (b : Bool). (cond b over (x.get (child q k))).phase) (child_other q k) ∙ kids k (subst (λ (n : Path → ℕ). k < n q) one.same less)) in
+        subst (λ (get : Path → Task (machine_of p)). StaysLawful p input x (record { get = get; store = x.store })) (twice q over (y.get q) here)
+        (record { lawful = two.lawful; same = two.same ∙ one.same })
+      where
+        last : Task (machine_of p) → Task (machine_of p)
+        last u = put (machine_of p) (in_phase (machine_of p) Finished) u
+
+        twice : (q : Path) (over u : Task (machine_of p)) → u ≡ over → set_at q (last u) (set_at q over x.get) ≡ set_at q (last over) x.get
+        twice q over u e = fun_ext (λ r. one_of (same_path r q) r)
+          where
+            one_of : (b : Bool) (r : Path) → cond b (last u) (cond b over (x.get r)) ≡ cond b (last over) (x.get r)
+            one_of true r = ap last e
+            one_of false r = refl

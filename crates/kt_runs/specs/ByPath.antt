@@ -11,7 +11,7 @@ use Rattle.kt_order.specs.Sequential.{Entry}
 use Rattle.kt_order.specs.Forest.{Task, Running, Finished, fresh}
 use Rattle.kt_order.specs.Rest.{left}
 use Rattle.kt_order.specs.Shown.{entry_of}
-use Rattle.kt_order.specs.Events.{put, did, forked, ended}
+use Rattle.kt_order.specs.Events.{put, in_phase, did, forked, ended}
 use Rattle.kt_order.specs.Paths.{set_at, IsThere}
 use Rattle.kt_order.specs.Named.{Named, named, count_of, enter_at}
 use Rattle.kt_order.specs.Listed.{all_paths}
@@ -131,6 +131,13 @@ module _ (p : Program) where
 
   abbrev pub after_finish : Path → ByPath → ByPath
   after_finish q x = enter_at (machine_of p) Finished q x
+
+  -- an end, and the finish at once
+  abbrev pub after_end_and_finish : Path → ByPath → ByPath
+  after_end_and_finish q x = record {
+    get = set_at q (put (machine_of p) (in_phase (machine_of p) Finished) (put (machine_of p) (ended (machine_of p)) (x.get q))) x.get;
+    store = x.store;
+  }
 
   -- what an event leaves is lawful, and no task has come
   pub record StaysLawful (input : List ℕ) (x y : ByPath) : Type 0 where

@@ -19,7 +19,7 @@ use Rattle.kt_prog.specs.declared.programs.Program.{Program}
 use Rattle.kt_prog.specs.declared.runs.Operation.{Operation}
 use Rattle.kt_rights.specs.Theorems.{ModesAgree, DirectModesAgree}
 use Rattle.kt_runs.specs.Plans.{plan_of}
-use Rattle.kt_runs.specs.ByPath.{Path, child, NoTwice, EachEarlier, one_task, one_index, ByPath, IsLawfulByPath, counts, IsTask, paths_of, ActsNext, ForksNext, EndsNext, GoesOnBy, after_claim, after_act, after_end, after_fork, after_finish, StaysLawful, NoClash, IsPlacedAt, GivesReferenceByPath, tasks_at_hand, indexes_at_hand}
+use Rattle.kt_runs.specs.ByPath.{Path, child, NoTwice, EachEarlier, one_task, one_index, ByPath, IsLawfulByPath, counts, IsTask, paths_of, ActsNext, ForksNext, EndsNext, GoesOnBy, after_claim, after_act, after_end, after_fork, after_finish, after_end_and_finish, StaysLawful, NoClash, IsPlacedAt, GivesReferenceByPath, tasks_at_hand, indexes_at_hand}
 
 -- with main unclaimed and the input in the store a core is lawful, and main is its only task
 abbrev pub OpensByPath : Type 0
@@ -90,6 +90,17 @@ abbrev pub FinishByPath : Type 0
 FinishByPath = (p : Program) (input : List ℕ) → IsAccepted p → (x : ByPath p) → IsLawfulByPath p input x → (q : Path) → IsTask p x q
     → (x.get q).phase ≡ Ended → ((k : ℕ) → k < counts p x q → (x.get (child q k)).phase ≡ Finished)
     → StaysLawful p input x (after_finish p q x)
+
+-- a task whose body ends with each child finished may finish at once
+abbrev pub EndAndFinishByPath : Type 0
+EndAndFinishByPath = (p : Program) (input : List ℕ) → IsAccepted p → (x : ByPath p) → IsLawfulByPath p input x → (q : Path) → IsTask p x q
+    → (x.get q).phase ≡ Running → EndsNext p (x.get q) → ((k : ℕ) → k < counts p x q → (x.get (child q k)).phase ≡ Finished)
+    → StaysLawful p input x (after_end_and_finish p q x)
+
+-- an index has no children
+abbrev pub IndexHasNoChildren : Type 0
+IndexHasNoChildren = (p : Program) (input : List ℕ) → IsAccepted p → (x : ByPath p) → IsLawfulByPath p input x → (q : Path) → IsTask p x q
+    → (call : CallTree) (i : ℕ) → (x.get q).call.job ≡ Index call i → counts p x q ≡ 0
 
 -- with main finished a lawful core has what the reference run has
 abbrev pub DoneByPath : Type 0

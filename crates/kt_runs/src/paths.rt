@@ -1,5 +1,5 @@
 //! The laws of runs over a core as a function from paths to tasks. The functions do nothing; their contracts are the laws.
-ghost use Rattle.kt_runs.specs.PathLaws.{ActByPath, BeginsReferenceByPath, CallsFitPaths, ChildrenAreTasks, ClaimInOrderByPath, ClaimReadyByPath, DoneByPath, EndByPath, FinishByPath, ForkByPath, ForkedCallByPath, IndexClaimByPath, LineAgreesByPath, NextGoesOn, NoMoreIndexesByPath, NoMoreTasksByPath, OpensByPath, SeparateAgreeByPath, TasksAreListed, WeighsNoMoreByPath};
+ghost use Rattle.kt_runs.specs.PathLaws.{ActByPath, BeginsReferenceByPath, CallsFitPaths, ChildrenAreTasks, ClaimInOrderByPath, ClaimReadyByPath, DoneByPath, EndAndFinishByPath, EndByPath, FinishByPath, ForkByPath, ForkedCallByPath, IndexClaimByPath, IndexHasNoChildren, LineAgreesByPath, NextGoesOn, NoMoreIndexesByPath, NoMoreTasksByPath, OpensByPath, SeparateAgreeByPath, TasksAreListed, WeighsNoMoreByPath};
 
 use crate::laws::{programs_meet_laws, programs_obey, side_by_side_agree};
 use kt_law::laws::{agreement_is_symmetric, hands_on_less};
@@ -96,6 +96,21 @@ pub fn fork()
 pub fn finish()
     ensures { FinishByPath }
 {
+    programs_meet_laws();
+}
+
+/// An end and a finish at once, of a task whose children are finished.
+pub fn end_and_finish()
+    ensures { EndAndFinishByPath }
+{
+    programs_meet_laws();
+}
+
+/// An index has no children.
+pub fn index_has_no_children()
+    ensures { IndexHasNoChildren }
+{
+    bodies_keep();
     programs_meet_laws();
 }
 
