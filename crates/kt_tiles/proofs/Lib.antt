@@ -1,0 +1,3 @@
+mod Rowed
+mod Widths
+mod Kernels
