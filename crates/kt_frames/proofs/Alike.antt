@@ -73,6 +73,7 @@ module _ (p : Program) where
     pub frames : y.frames ≡ all_pushed x.frames (calls_of a.forks)
     pub over : y.over ≡ over_all x.frames x.over (calls_of a.forks)
     pub program : y.store.program ≡ x.store.program
+    pub indexes : y.indexes ≡ x.indexes
     pub ends : last ≡ last_of a.fault
 
   alike_stop : (f : Option Fault) (path : List ℕ) (k : ℕ) (heard : List ℕ) (done : List Operation) (last : Operation) (x y : Owner)
@@ -84,15 +85,16 @@ module _ (p : Program) where
         frames = ap (λ (o : Owner). o.frames) (sym w);
         over = ap (λ (o : Owner). o.over) (sym w);
         program = ap (λ (o : Owner). o.store.program) (sym w);
+        indexes = ap (λ (o : Owner). o.indexes) (sym w);
         ends = sym same;
       }
   alike_stop f path k heard (d ∷ done) last x y e w = let none : [] ≡ done ++ last ∷ [] = cc in absurd (not_snoc done last none)
 
   -- an act took the owner from x to z, and the rest of the body from there to y
   alike_do : (x z y : Owner) (act : Act) (next : ℕ → Script) (path : List ℕ) (k found : ℕ) (last : Operation) → m.answer act x.store.elements ≡ found
-      → z.store ≡ after_act act x.store → x.store.program ≡ p → z.frames ≡ x.frames → z.over ≡ x.over
+      → z.store ≡ after_act act x.store → x.store.program ≡ p → z.frames ≡ x.frames → z.over ≡ x.over → z.indexes ≡ x.indexes
       → Alike z y (alone m (placed path k (next found)) z.store.elements) last → Alike x y (alone m (placed path k (Do act next)) x.store.elements) last
-  alike_do x z y act next path k found last answers store is frames over ih =
+  alike_do x z y act next path k found last answers store is frames over indexes ih =
       let stores : m.after act x.store.elements ≡ z.store.elements =
       ap (λ (q : Program). after q.families act x.store.elements) (sym is) ∙ ap (λ (s : StoreState). s.elements) (sym store) in
       let run : ℕ → List ℕ → Alone m = λ a s. alone m (placed path k (next a)) s in
@@ -105,6 +107,7 @@ module _ (p : Program) where
         frames = moved.frames ∙ ap (λ (f : Stack). all_pushed f cs) frames;
         over = moved.over ∙ ap (λ (f : Stack). over_all f z.over cs) frames ∙ ap (λ (b : Bool). over_all x.frames b cs) over;
         program = moved.program ∙ ap (λ (s : StoreState). s.program) store;
+        indexes = moved.indexes ∙ indexes;
         ends = moved.ends;
       }
 
@@ -120,6 +123,7 @@ module _ (p : Program) where
         frames = moved.frames ∙ ap (λ (f : Stack). all_pushed f cs) g.frames;
         over = moved.over ∙ ap (λ (f : Stack). over_all f z.over cs) g.frames ∙ ap (λ (b : Bool). over_all (pushed x.frames c) b cs) g.over;
         program = moved.program ∙ ap (λ (s : StoreState). s.program) g.store;
+        indexes = moved.indexes ∙ g.indexes;
         ends = moved.ends;
       }
 
@@ -151,7 +155,7 @@ module _ (p : Program) where
         let act : Act = record { object = object; element = element; deed = Load } in
         let answers : answer p.families act x.store.elements ≡ a = ap (λ (q : Program). answer q.families act x.store.elements) (sym is) ∙ sym g.found in
         let on = ap (λ (s : StoreState). s.program) g.store ∙ is in
-        alike_do x w.0 y act next path k a last answers (g.store ∙ loaded x.store act refl) is g.frames g.over
+        alike_do x w.0 y act next path k a last answers (g.store ∙ loaded x.store act refl) is g.frames g.over g.indexes
         (more a path k heard done w.0 y on rest w.2)
     act_alike object element (Store v) next more path k heard [] x y is e w =
         let same : O.Store object element v ≡ last = cc in absurd (not_last (O.Store object element v) last same is_last)
@@ -160,7 +164,7 @@ module _ (p : Program) where
         let rest : trace (O.End ∷ []) (next 0) heard ≡ done ++ last ∷ [] = cc in
         let g : Moves x (O.Store object element v) w.0 = subst (λ (op : Operation). Moves x op w.0) (sym same) w.1 in
         let on = ap (λ (s : StoreState). s.program) g.store ∙ is in
-        alike_do x w.0 y (record { object = object; element = element; deed = Store v }) next path k 0 last refl g.store is g.frames g.over
+        alike_do x w.0 y (record { object = object; element = element; deed = Store v }) next path k 0 last refl g.store is g.frames g.over g.indexes
         (more 0 path k heard done w.0 y on rest w.2)
     act_alike object element (Fold op v) next more path k heard [] x y is e w =
         let same : O.Fold object element op v ≡ last = cc in absurd (not_last (O.Fold object element op v) last same is_last)
@@ -169,7 +173,7 @@ module _ (p : Program) where
         let rest : trace (O.End ∷ []) (next 0) heard ≡ done ++ last ∷ [] = cc in
         let g : Moves x (O.Fold object element op v) w.0 = subst (λ (o : Operation). Moves x o w.0) (sym same) w.1 in
         let on = ap (λ (s : StoreState). s.program) g.store ∙ is in
-        alike_do x w.0 y (record { object = object; element = element; deed = Fold op v }) next path k 0 last refl g.store is g.frames g.over
+        alike_do x w.0 y (record { object = object; element = element; deed = Fold op v }) next path k 0 last refl g.store is g.frames g.over g.indexes
         (more 0 path k heard done w.0 y on rest w.2)
 
     pub goes_alike : (s : Script) → Kept s → Goal s
@@ -204,9 +208,8 @@ module _ (p : Program) where
     forks_each (Fork (Index c i) next) h path k store = absurd h.0
     forks_each (Fork (Whole c) next) h path k store = (h.0, forks_each next h.1 path (suc k) store)
 
--- two things that a body keeps to, as one
-pub keeps_both : (D E : Act → Type 0) (H K M : Job → Type 0) → ((act : Act) → D act → E act) → ((job : Job) → H job → K job → M job)
-    → (F : Act → Type 0) (s : Script) → Keeps D H s → Keeps F K s → Keeps E M s
-keeps_both D E H K M f g F (Stop x) h k = tt
-keeps_both D E H K M f g F (Do act next) h k = (f act h.0, λ a. keeps_both D E H K M f g F (next a) (h.1 a) (k.1 a))
-keeps_both D E H K M f g F (Fork job next) h k = (g job h.0 k.0, keeps_both D E H K M f g F next h.1 k.1)
+-- what a body keeps to, said otherwise of what it forks
+pub keeps_as : (D : Act → Type 0) (H K : Job → Type 0) → ((job : Job) → H job → K job) → (s : Script) → Keeps D H s → Keeps D K s
+keeps_as D H K f (Stop x) h = tt
+keeps_as D H K f (Do act next) h = (h.0, λ a. keeps_as D H K f (next a) (h.1 a))
+keeps_as D H K f (Fork job next) h = (f job h.0, keeps_as D H K f next h.1)

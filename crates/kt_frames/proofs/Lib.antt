@@ -5,3 +5,5 @@ pub mod Standing
 pub mod Alike
 pub mod Rests
 pub mod Turns
+pub mod Zeroed
+pub mod LoopTurns

@@ -5,14 +5,14 @@ use Rattle.std.proofs.lemmas.Bool.Decides.{nat_tests}
 use Rattle.std.proofs.lemmas.List.{drop_all, length-append}
 use Rattle.std.proofs.lemmas.Option.{slice_get_within, get_or_from_slice_get}
 use Rattle.std.proofs.lemmas.Grind.{flat_map-append}
-use Rattle.kt_law.specs.declared.limits.TheConstants.{DEPTH, TASKS}
+use Rattle.kt_law.specs.declared.limits.TheConstants.{DEPTH, INDEXES, TASKS}
 use Rattle.kt_order.specs.Machine.{Machine}
 use Rattle.kt_order.specs.Sequential.{Entry, Run, alone, each, joined, noted, still_at, whole, whole_within}
-use Rattle.kt_prog.specs.Calls.{CallTree, Whole}
+use Rattle.kt_prog.specs.Calls.{CallTree, Whole, Index}
 use Rattle.kt_prog.specs.Script.{Fault}
 use Rattle.kt_prog.specs.Bodies.{script_of}
 use Rattle.kt_prog.specs.Fits.{Fits, is_main, is_call}
-use Rattle.kt_prog.specs.Entries.{tasks_of, faults_of, fault_in, task_in}
+use Rattle.kt_prog.specs.Entries.{tasks_of, indexes_of, faults_of, fault_in, index_of, task_in}
 use Rattle.kt_prog.specs.Outcome.{fault_or_rows}
 use Rattle.kt_prog.specs.Runs.{FaultRun}
 use Rattle.kt_prog.specs.Reference.{Placed, placed, machine_of}
@@ -91,6 +91,10 @@ good_at p depth [] k c h e = cc
 good_at p depth (x ∷ calls) zero c h e = let same : x ≡ c = cc in subst (IsCallAt p depth) same h.0
 good_at p depth (x ∷ calls) (suc k) c h e = good_at p depth calls k c h.1 e
 
+or_true : (b : Bool) → (b || true) ≡ true
+or_true true = refl
+or_true false = refl
+
 module _ (p : Program) where
   abbrev m : Machine
   m = machine_of p
@@ -135,13 +139,13 @@ module _ (p : Program) where
   joined_assoc : (x y z : Run m) → joined m (joined m x y) z ≡ joined m x (joined m y z)
   joined_assoc x y z = ap (λ (es : List (Entry m)). let r : Run m = record { store = z.store; entries = es } in r) (append_assoc x.entries y.entries z.entries)
 
-  -- the body of the first entry that waits, and then what is left behind it
-  pub rest_begun : (st : Stack) (c : CallTree) (s : List ℕ) (cs : List CallTree) → GoodStack p st → next_of st ≡ Some c
+  -- the body of the first entry that waits, all that it forks, and then the frames below
+  pub rest_claimed : (st : Stack) (c : CallTree) (s : List ℕ) → GoodStack p st → next_of st ≡ Some c
       → let path = entry_path st.below (suc st.top.finished) in
       let a = alone m (placed path 1 (script_of p (Whole c))) s in
-      a.forks ≡ numbered path 1 cs → EachCall (IsCallAt p (suc (length st.below))) cs
-      → rest_of st s ≡ noted m (record { path = path; job = Whole c }) a.answers a.fault a.steps (rest_of (with_children (begun st) cs) a.store)
-  rest_begun st c s cs good next forks fit =
+      let k = each m (whole_within m (DEPTH - length st.below)) a.forks a.store in
+      rest_of st s ≡ noted m (record { path = path; job = Whole c }) a.answers a.fault a.steps (joined m k (rest_below (st.top ∷ st.below) k.store))
+  rest_claimed st c s good next =
       let path = entry_path st.below (suc st.top.finished) in
       let a = alone m (placed path 1 (script_of p (Whole c))) s in
       let first : Placed = record { path = path; job = Whole c } in
@@ -151,23 +155,38 @@ module _ (p : Program) where
       drop-cons st.top.calls st.top.finished c lt ∙ ap (λ (x : CallTree). x ∷ drop (suc st.top.finished) st.top.calls) item in
       let one = good_at p (length st.below) st.top.calls st.top.finished c good.top next in
       let height : suc (DEPTH - c.depth) ≡ suc (DEPTH - length st.below) = ap (λ (d : ℕ). suc (DEPTH - d)) one.1 in
-      let children : each m (whole_within m (DEPTH - length st.below)) a.forks a.store ≡ run_all (placed_from (st.top ∷ st.below) 1 cs) a.store =
-      ap (λ (xs : List Placed). each m (whole_within m (DEPTH - length st.below)) xs a.store) (forks ∙ numbered_from st.below st.top 1 cs)
-      ∙ each_deep (length st.below) (st.top ∷ st.below) 1 cs fit a.store in
-      let body : whole m first s ≡ noted m first a.answers a.fault a.steps (run_all (placed_from (st.top ∷ st.below) 1 cs) a.store) =
-      ap (λ (k : ℕ). whole_within m k first s) height ∙ ap (noted m first a.answers a.fault a.steps) children in
+      let k = each m (whole_within m (DEPTH - length st.below)) a.forks a.store in
+      let with_body : Run m → Run m = λ (x : Run m). noted m first a.answers a.fault a.steps x in
+      let body : whole m first s ≡ with_body k = ap (λ (n : ℕ). whole_within m n first s) height in
       let after : List ℕ → Run m = λ (t : List ℕ). run_all (placed_from st.below (suc (suc st.top.finished)) (drop (suc st.top.finished) st.top.calls)) t in
       let then_on : Run m → Run m = λ (x : Run m). joined m (joined m x (after x.store)) (rest_below st.below (after x.store).store) in
-      let k = run_all (placed_from (st.top ∷ st.below) 1 cs) a.store in
-      let with_body : Run m → Run m = λ (x : Run m). noted m first a.answers a.fault a.steps x in
       let e1 : rest_of st s ≡ then_on (whole m first s) =
       ap (λ (xs : List CallTree). let x : Run m = run_all (placed_from st.below (suc st.top.finished) xs) s in joined m x (rest_below st.below x.store)) split in
       let e2 : then_on (whole m first s) ≡ then_on (with_body k) = ap then_on body in
       let e3 : then_on (with_body k) ≡ with_body (joined m k (joined m (after k.store) (rest_below st.below (after k.store).store))) =
       ap with_body (joined_assoc k (after k.store) (rest_below st.below (after k.store).store)) in
-      let e4 : joined m k (joined m (after k.store) (rest_below st.below (after k.store).store)) ≡ rest_of (with_children (begun st) cs) a.store =
+      e1 ∙ e2 ∙ e3
+
+  -- the same where it forks calls alone, which then are the entries of a frame above
+  pub rest_begun : (st : Stack) (c : CallTree) (s : List ℕ) (cs : List CallTree) → GoodStack p st → next_of st ≡ Some c
+      → let path = entry_path st.below (suc st.top.finished) in
+      let a = alone m (placed path 1 (script_of p (Whole c))) s in
+      a.forks ≡ numbered path 1 cs → EachCall (IsCallAt p (suc (length st.below))) cs
+      → rest_of st s ≡ noted m (record { path = path; job = Whole c }) a.answers a.fault a.steps (rest_of (with_children (begun st) cs) a.store)
+  rest_begun st c s cs good next forks fit =
+      let path = entry_path st.below (suc st.top.finished) in
+      let a = alone m (placed path 1 (script_of p (Whole c))) s in
+      let first : Placed = record { path = path; job = Whole c } in
+      let children : each m (whole_within m (DEPTH - length st.below)) a.forks a.store ≡ run_all (placed_from (st.top ∷ st.below) 1 cs) a.store =
+      ap (λ (xs : List Placed). each m (whole_within m (DEPTH - length st.below)) xs a.store) (forks ∙ numbered_from st.below st.top 1 cs)
+      ∙ each_deep (length st.below) (st.top ∷ st.below) 1 cs fit a.store in
+      let with_body : Run m → Run m = λ (x : Run m). noted m first a.answers a.fault a.steps x in
+      let k = run_all (placed_from (st.top ∷ st.below) 1 cs) a.store in
+      let last : joined m k (rest_below (st.top ∷ st.below) k.store) ≡ rest_of (with_children (begun st) cs) a.store =
       ap (λ (o : Option CallTree). rest_of (with_children (begun_at o st) cs) a.store) (sym next) in
-      e1 ∙ e2 ∙ e3 ∙ ap with_body e4
+      rest_claimed st c s good next
+      ∙ ap (λ (x : Run m). with_body (joined m x (rest_below (st.top ∷ st.below) x.store))) children
+      ∙ ap with_body last
 
   tasks_append : (xs ys : List (Entry m)) → tasks_of p (xs ++ ys) ≡ tasks_of p xs ++ tasks_of p ys
   tasks_append xs ys = flat_map-append (λ (e : Entry m). task_in e.call.path e.call.job e.answers) xs ys
@@ -212,37 +231,55 @@ module _ (p : Program) where
       omega arith
 
 module _ (p : Program) where
-  abbrev pub answered_from : Option FaultRun → ℕ → Run (machine_of p) → Ran
+  abbrev pub answered_from : Option FaultRun → ℕ → ℕ → Run (machine_of p) → Ran
   answered_from = R.answered_from p
 
-  same_faults : (least : Option FaultRun) (path : List ℕ) (c : CallTree) (fault : Option Fault) (faults : List FaultRun) (store : List ℕ)
-      → fault_or_rows store (with_least least (fault_in (record { path = path; job = Whole c }) fault ++ faults))
-      ≡ fault_or_rows store (with_least (least_with least path fault) faults)
-  same_faults None path c None faults store = refl
-  same_faults None path c (Some f) faults store = refl
-  same_faults (Some l) path c None faults store = refl
-  same_faults (Some l) path c (Some f) faults store = refl
+  same_faults : (least : Option FaultRun) (c : Placed) (fault : Option Fault) (faults : List FaultRun) (store : List ℕ)
+      → fault_or_rows store (with_least least (fault_in c fault ++ faults))
+      ≡ fault_or_rows store (with_least (least_with least c.path (index_of c.job) fault) faults)
+  same_faults None c None faults store = refl
+  same_faults None c (Some f) faults store = refl
+  same_faults (Some l) c None faults store = refl
+  same_faults (Some l) c (Some f) faults store = refl
 
-  -- one task more was run
-  pub answered_noted : (least : Option FaultRun) (ran : ℕ) (path : List ℕ) (c : CallTree) (answers : List ℕ) (fault : Option Fault) (steps : ℕ)
-      (r : Run (machine_of p))
-      → answered_from least ran (noted (machine_of p) (record { path = path; job = Whole c }) answers fault steps r)
-      ≡ answered_from (least_with least path fault) (suc ran) r
-  answered_noted least ran path c answers fault steps r =
-      let count : ran + suc (length (tasks_of p r.entries)) ≡ suc ran + length (tasks_of p r.entries) = omega arith in
-      rw (count, same_faults least path c fault (faults_of p r.entries) r.store) refl
+  module _ (least : Option FaultRun) (ran indexes : ℕ) where
+    module _ (path : List ℕ) (c : CallTree) (answers : List ℕ) (fault : Option Fault) (steps : ℕ) (r : Run (machine_of p)) where
+      -- one task more was run
+      pub answered_noted : answered_from least ran indexes (noted (machine_of p) (record { path = path; job = Whole c }) answers fault steps r)
+          ≡ answered_from (least_with least path None fault) (suc ran) indexes r
+      answered_noted =
+          let count : ran + suc (length (tasks_of p r.entries)) ≡ suc ran + length (tasks_of p r.entries) = omega arith in
+          rw (count, same_faults least (record { path = path; job = Whole c }) fault (faults_of p r.entries) r.store) refl
 
-  -- more tasks than the limit allows
-  pub answered_limit : (least : Option FaultRun) (ran : ℕ) (r : Run (machine_of p)) → TASKS < ran + length (tasks_of p r.entries)
-      → answered_from least ran r ≡ record { outcome = O.Limit; tasks = 0; indexes = 0 }
-  answered_limit least ran r h =
-      let test : nat_lt TASKS (ran + length (tasks_of p r.entries)) ≡ true = grind (arith, nat_tests) in
-      rw test refl
+      -- one index more
+      pub answered_index : (i : ℕ)
+          → answered_from least ran indexes (noted (machine_of p) (record { path = path; job = Index c i }) answers fault steps r)
+          ≡ answered_from (least_with least path (Some i) fault) ran (suc indexes) r
+      answered_index i =
+          let count : indexes + suc (length (indexes_of p r.entries)) ≡ suc indexes + length (indexes_of p r.entries) = omega arith in
+          rw (count, same_faults least (record { path = path; job = Index c i }) fault (faults_of p r.entries) r.store) refl
 
-  -- nothing is left
-  pub answered_still : (least : Option FaultRun) (ran : ℕ) (s : List ℕ) → ran ≤ TASKS
-      → answered_from least ran (still_at (machine_of p) s) ≡ record { outcome = fault_or_rows s (with_least least []); tasks = ran; indexes = 0 }
-  answered_still least ran s h =
-      let none : ran + 0 ≡ ran = omega arith in
-      let test : nat_lt TASKS ran ≡ false = grind (arith, nat_tests) in
-      rw (none, test) refl
+    -- more tasks than the limit allows
+    pub answered_limit : (r : Run (machine_of p)) → TASKS < ran + length (tasks_of p r.entries)
+        → answered_from least ran indexes r ≡ record { outcome = O.Limit; tasks = 0; indexes = 0 }
+    answered_limit r h =
+        let test : nat_lt TASKS (ran + length (tasks_of p r.entries)) ≡ true = grind (arith, nat_tests) in
+        rw test refl
+
+    -- more indexes than the limit allows
+    pub answered_long : (r : Run (machine_of p)) → INDEXES < indexes + length (indexes_of p r.entries)
+        → answered_from least ran indexes r ≡ record { outcome = O.Limit; tasks = 0; indexes = 0 }
+    answered_long r h =
+        let test : nat_lt INDEXES (indexes + length (indexes_of p r.entries)) ≡ true = grind (arith, nat_tests) in
+        rw (test, or_true (nat_lt TASKS (ran + length (tasks_of p r.entries)))) refl
+
+    -- nothing is left
+    pub answered_still : (s : List ℕ) → ran ≤ TASKS → indexes ≤ INDEXES
+        → answered_from least ran indexes (still_at (machine_of p) s)
+        ≡ record { outcome = fault_or_rows s (with_least least []); tasks = ran; indexes = indexes }
+    answered_still s h k =
+        let none : ran + 0 ≡ ran = omega arith in
+        let no_index : indexes + 0 ≡ indexes = omega arith in
+        let few : nat_lt TASKS ran ≡ false = grind (arith, nat_tests) in
+        let short : nat_lt INDEXES indexes ≡ false = grind (arith, nat_tests) in
+        rw (none, no_index, few, short) refl

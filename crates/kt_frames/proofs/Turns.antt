@@ -1,8 +1,8 @@
 -- How the run stands between two tasks.
-use Rattle.std.proofs.Common.{◌≡◌, ◌≤◌, ◌<◌, ℕ, zero, suc, ◌+◌, ◌-◌, Bool, true, false, nat_lt, List, [], ◌∷◌, ◌++◌, length, Option, Some, None, refl, sym, ap, ◌∙◌, subst, arith, append-nil}
+use Rattle.std.proofs.Common.{◌≡◌, ◌≤◌, ◌<◌, ℕ, zero, suc, ◌+◌, ◌-◌, Bool, true, false, if◌then◌else◌, is_some, nat_lt, List, [], ◌∷◌, ◌++◌, length, Option, Some, None, refl, sym, ap, ◌∙◌, subst, arith, append-nil}
 use Rattle.std.proofs.lemmas.Bool.Decides.{nat_tests}
 use Rattle.std.proofs.lemmas.Option.{slice_get_within}
-use Rattle.kt_law.specs.declared.limits.TheConstants.{DEFINITIONS, DEPTH, TASKS}
+use Rattle.kt_law.specs.declared.limits.TheConstants.{DEFINITIONS, DEPTH, INDEXES, TASKS}
 use Rattle.kt_law.specs.declared.faults.F.{F}
 use Rattle.kt_order.specs.Body.{Keeps}
 use Rattle.kt_order.specs.Machine.{Machine}
@@ -13,12 +13,13 @@ use Rattle.kt_prog.specs.Script.{Fault}
 use Rattle.kt_prog.specs.Bodies.{script_of, index_in, task_at}
 use Rattle.kt_prog.specs.Entries.{tasks_of, indexes_of, faults_of}
 use Rattle.kt_prog.specs.Outcome.{answered, outcome_of}
-use Rattle.kt_prog.specs.Fits.{Fits, is_main, is_call, target_at, task_target}
+use Rattle.kt_prog.specs.Fits.{Fits, is_main, is_call, kernel_at, target_at, task_target}
 use Rattle.kt_prog.specs.Operations.{operations, end_of, is_loop_at, trace}
 use Rattle.kt_prog.specs.Reference.{placed, machine_of, main_placed, opened_with, reference}
 use Rattle.kt_prog.specs.Rights.{Directly, Forks}
 use Rattle.kt_prog.specs.Runs.{FaultRun}
-use Rattle.kt_prog.specs.Targets.{Target, is_loop_of}
+use Rattle.kt_prog.specs.Targets.{Target, is_loop_of, mul, minplus, stencil, scan}
+use Rattle.kt_prog.specs.declared.programs.Index as I
 use Rattle.kt_prog.specs.declared.programs.Program.{Program}
 use Rattle.kt_prog.specs.declared.programs.Task.{Task}
 use Rattle.kt_prog.specs.declared.runs.Operation.{Operation}
@@ -31,14 +32,14 @@ use Rattle.kt_body.specs.declared.ops.Ended.TheVariants as E
 use Rattle.kt_frames.specs.OnlyTasks.{HasOnlyTasks}
 use Rattle.kt_frames.specs.Owned.{Moves, stands_at, never}
 use Rattle.kt_frames.specs.Rest.{EachCall, IsCallAt, GoodStack, waiting, waiting_below, rest_of, rest_below, answered_from, least_with, fault_of, IsLive, left, to_do, limit_ran, ended_ran, Finishes, stays, more, with_frames, IsClaimed, TurnIs}
-use Rattle.kt_frames.specs.declared.owner.Turn.{Turn}
-use Rattle.kt_frames.specs.declared.owner.Turn.TheVariants as T
+use Rattle.kt_frames.specs.declared.turn.Turn.{Turn}
+use Rattle.kt_frames.specs.declared.turn.Turn.TheVariants as T
 use Rattle.kt_frames.specs.Stack.{Frame, Stack, opened, IsRunning, begun, begun_at, next_of, entry_path, path_over, finished_to}
 use Rattle.kt_frames.specs.declared.owner.Owner.{Owner}
 use Rattle.kt_frames.proofs.Layouts.{ended_none}
-use Rattle.kt_frames.proofs.Forking.{Free, both}
-use Rattle.kt_frames.proofs.TaskBodies.{NoKernel, forks_no_kernel, of_task, no_index, OfTask}
-use Rattle.kt_frames.proofs.Alike.{OfCall, Alike, Went, goes_alike, forks_numbered, forks_each, calls_of, all_pushed, over_all, keeps_both, last_of, numbered, IsLast}
+use Rattle.kt_frames.proofs.Forking.{both}
+use Rattle.kt_frames.proofs.TaskBodies.{of_task, no_index, OfTask}
+use Rattle.kt_frames.proofs.Alike.{OfCall, Alike, Went, goes_alike, forks_numbered, forks_each, calls_of, all_pushed, over_all, keeps_as, last_of, numbered, IsLast}
 use Rattle.kt_frames.proofs.Rests.{Fitting, pushed_fit, pushed_over, with_children, rest_ended, rest_begun, rest_count, answered_noted, answered_limit, answered_still, good_at, fits_deep}
 
 absurd_cons : (f : Frame) (below : List Frame) → f ∷ below ≡ [] → ⊥
@@ -81,36 +82,8 @@ kin_all p s t (more {t = u} h runs none) =
       rest = λ store. one.rest store ∙ two.rest store;
     }
 
--- a claimed call is that of main or of a task
+-- a program of tasks alone has no loop
 module _ (p : Program) (ok : IsAccepted p) (only : HasOnlyTasks p) where
-  abbrev m : Machine
-  m = machine_of p
-
-  no_target : (t : Target) → target_at p.tasks 0 ≡ Some t → ⊥
-  no_target t h = cc
-
-  tasks_only : (k : ℕ) → OfTask (task_at p.tasks k)
-  tasks_only k = of_task p.tasks k (both _ _ only).0
-
-  task_no_loop : (x : Option Task) (t : Task) → OfTask x → x ≡ Some t → t.index ≡ None
-  task_no_loop None t h e = cc
-  task_no_loop (Some u) t h e =
-      let same : u ≡ t = cc in
-      let index = no_index u.index (both _ _ h).0 in
-      subst (λ (y : Task). y.index ≡ None) same index
-
-  target_no_loop : (call : CallTree) (n : ℕ) (t : Target) → n ≤ DEFINITIONS → target_at p.tasks n ≡ Some t → t.is_loop ≡ false
-  target_no_loop call zero t le is = absurd (no_target t is)
-  target_no_loop call (suc k) t le is =
-      let test : nat_lt k DEFINITIONS ≡ true = grind (arith, nat_tests) in
-      let found : task_target p.tasks 1 k ≡ Some t = sym (rw test refl) ∙ is in
-      let u = task_of p.tasks 1 k t found in
-      ap (λ (x : Target). x.is_loop) u.is ∙ ap is_loop_of (task_no_loop (task_at p.tasks k) u.task (tasks_only k) u.at)
-
-  no_length : (call : CallTree) → Fits p call → call.task ≤ DEFINITIONS → call.length ≡ 0
-  no_length call (is_main e) le = ap (λ (c : CallTree). c.length) e
-  no_length call (is_call t is fits) le = fits.formed (target_no_loop call call.task t le is)
-
   index_none : (x : Option Task) → OfTask x → index_in x ≡ None
   index_none None h = refl
   index_none (Some t) h = no_index t.index (both _ _ h).0
@@ -119,47 +92,91 @@ module _ (p : Program) (ok : IsAccepted p) (only : HasOnlyTasks p) where
   no_loop zero le = refl
   no_loop (suc k) le =
       let test : nat_lt k DEFINITIONS ≡ true = grind (arith, nat_tests) in
-      rw (test, index_none (task_at p.tasks k) (tasks_only k)) refl
+      rw (test, index_none (task_at p.tasks k) (of_task p.tasks k (both _ _ only).0)) refl
 
-  -- what the body of a call at this depth does and forks
-  call_keeps : (depth : ℕ) (call : CallTree) → IsCallAt p depth call
-      → Keeps (Directly p (Whole call)) (OfCall (IsCallAt p (suc depth))) (script_of p (Whole call))
-  call_keeps depth call is =
-      keeps_both (Directly p (Whole call)) (Directly p (Whole call)) (Forks p (Whole call)) NoKernel (OfCall (IsCallAt p (suc depth)))
-      (λ act d. d) forked Free (script_of p (Whole call)) (plain (λ w. w) p ok (Whole call) is.0)
-      (forks_no_kernel p ok only call is.2)
+-- a call that is no loop's has no length
+index_is : (x : Option I.Index) → is_loop_of x ≡ is_some x
+index_is None = refl
+index_is (Some index) = refl
+
+loop_is : (x : Option Task) (t : Task) → x ≡ Some t → is_loop_of t.index ≡ is_some (index_in x)
+loop_is None t e = cc
+loop_is (Some u) t e =
+    let same : u ≡ t = cc in
+    subst (λ (y : Task). is_loop_of y.index ≡ is_some u.index) same (index_is u.index)
+
+kernel_single : (k : ℕ) (t : Target) → kernel_at k ≡ Some t → t.is_loop ≡ false
+kernel_single zero t e = let same : mul ≡ t = cc in subst (λ (x : Target). x.is_loop ≡ false) same refl
+kernel_single (suc zero) t e = let same : minplus ≡ t = cc in subst (λ (x : Target). x.is_loop ≡ false) same refl
+kernel_single (suc (suc zero)) t e = let same : stencil ≡ t = cc in subst (λ (x : Target). x.is_loop ≡ false) same refl
+kernel_single (suc (suc (suc zero))) t e = let same : scan ≡ t = cc in subst (λ (x : Target). x.is_loop ≡ false) same refl
+kernel_single (suc (suc (suc (suc k)))) t e = cc
+
+module _ (p : Program) where
+  target_single : (n : ℕ) (t : Target) → is_loop_at p n ≡ false → target_at p.tasks n ≡ Some t → t.is_loop ≡ false
+  target_single zero t h is = cc
+  target_single (suc k) t h is = chosen (nat_lt k DEFINITIONS) h is
     where
-      forked : (job : Job) → Forks p (Whole call) job → NoKernel job → OfCall (IsCallAt p (suc depth)) job
-      forked (Whole child) h k = (h.fits, h.deeper ∙ ap suc is.1, k)
-      forked (Index loop i) h k = let none = no_length call is.0 is.2 in let lt = h.1 in absurd (omega arith)
+      chosen : (b : Bool) → (if b then is_some (index_in (task_at p.tasks k)) else false) ≡ false
+          → (if b then task_target p.tasks 1 k else kernel_at (k - DEFINITIONS)) ≡ Some t → t.is_loop ≡ false
+      chosen true h is =
+          let u = task_of p.tasks 1 k t is in
+          ap (λ (x : Target). x.is_loop) u.is ∙ loop_is (task_at p.tasks k) u.task u.at ∙ h
+      chosen false h is = kernel_single (k - DEFINITIONS) t is
 
-  -- the body of a claimed task is done as it is alone
-  pub record Body (x y : Owner) (path : List ℕ) (depth : ℕ) (call : CallTree) (ended : Ended) (cs : List CallTree) : Type 0 where
+  no_length : (call : CallTree) → Fits p call → is_loop_at p call.task ≡ false → call.length ≡ 0
+  no_length call (is_main e) h = ap (λ (c : CallTree). c.length) e
+  no_length call (is_call t is fits) h = fits.formed (target_single call.task t h is)
+
+-- what the body of a claimed call does and forks
+module _ (p : Program) (ok : IsAccepted p) where
+  abbrev m : Machine
+  m = machine_of p
+
+  call_keeps : (depth : ℕ) (call : CallTree) → IsCallAt p depth call → is_loop_at p call.task ≡ false
+      → Keeps (Directly p (Whole call)) (OfCall (IsCallAt p (suc depth))) (script_of p (Whole call))
+  call_keeps depth call is single =
+      keeps_as (Directly p (Whole call)) (Forks p (Whole call)) (OfCall (IsCallAt p (suc depth))) forked (script_of p (Whole call))
+      (plain (λ w. w) p ok (Whole call) is.0)
+    where
+      forked : (job : Job) → Forks p (Whole call) job → OfCall (IsCallAt p (suc depth)) job
+      forked (Whole child) h = (h.fits, h.deeper ∙ ap suc is.1)
+      forked (Index loop i) h = let none = no_length p call is.0 single in let lt = h.1 in absurd (omega (arith, none, lt))
+
+  abbrev pub Nothing : CallTree → Type 0
+  Nothing call = ⊥
+
+  pub index_keeps : (call : CallTree) (i : ℕ) → Fits p call → i < call.length
+      → Keeps (Directly p (Index call i)) (OfCall Nothing) (script_of p (Index call i))
+  index_keeps call i fits lt =
+      keeps_as (Directly p (Index call i)) (Forks p (Index call i)) (OfCall Nothing) (λ job h. absurd h) (script_of p (Index call i))
+      (plain (λ w. w) p ok (Index call i) (fits, lt))
+
+  -- the body is done as it is alone
+  pub record Body (x y : Owner) (path : List ℕ) (job : Job) (G : CallTree → Type 0) (ended : Ended) (cs : List CallTree) : Type 0 where
     pub last : Operation
-    pub alike : Alike p x y (alone m (placed path 1 (script_of p (Whole call))) x.store.elements) last
-    pub calls : cs ≡ calls_of (alone m (placed path 1 (script_of p (Whole call))) x.store.elements).forks
-    pub forks : (alone m (placed path 1 (script_of p (Whole call))) x.store.elements).forks ≡ numbered path 1 cs
-    pub each : EachCall (IsCallAt p (suc depth)) cs
-    pub fault : (alone m (placed path 1 (script_of p (Whole call))) x.store.elements).fault ≡ fault_of ended
+    pub alike : Alike p x y (alone m (placed path 1 (script_of p job)) x.store.elements) last
+    pub calls : cs ≡ calls_of (alone m (placed path 1 (script_of p job)) x.store.elements).forks
+    pub forks : (alone m (placed path 1 (script_of p job)) x.store.elements).forks ≡ numbered path 1 cs
+    pub each : EachCall G cs
+    pub fault : (alone m (placed path 1 (script_of p job)) x.store.elements).fault ≡ fault_of ended
 
-  body_with : (x y : Owner) (path : List ℕ) (depth : ℕ) (call : CallTree) (ended : Ended) (done : List Operation) (last : Operation)
-      → IsCallAt p depth call → x.store.program ≡ p → IsLast last
-      → operations p (Whole call) (answers_of done) ≡ done ++ last ∷ [] → Went x done y
+  body_with : (x y : Owner) (path : List ℕ) (job : Job) (G : CallTree → Type 0) (ended : Ended) (done : List Operation) (last : Operation)
+      → Keeps (Directly p job) (OfCall G) (script_of p job) → end_of p job ≡ O.End ∷ [] → x.store.program ≡ p → IsLast last
+      → operations p job (answers_of done) ≡ done ++ last ∷ [] → Went x done y
       → ((f : Option Fault) → last ≡ last_of f → f ≡ fault_of ended)
-      → Body x y path depth call ended (calls_of (alone m (placed path 1 (script_of p (Whole call))) x.store.elements).forks)
-  body_with x y path depth call ended done last is same is_last e w faults =
-      let kept = call_keeps depth call is in
-      let s = script_of p (Whole call) in
-      let end : end_of p (Whole call) ≡ O.End ∷ [] = rw (no_loop call.task is.2) refl in
+      → Body x y path job G ended (calls_of (alone m (placed path 1 (script_of p job)) x.store.elements).forks)
+  body_with x y path job G ended done last kept end same is_last e w faults =
+      let s = script_of p job in
       let traced : trace (O.End ∷ []) s (answers_of done) ≡ done ++ last ∷ [] =
       subst (λ (ops : List Operation). trace ops s (answers_of done) ≡ done ++ last ∷ []) end e in
-      let alike = goes_alike p (Directly p (Whole call)) (IsCallAt p (suc depth)) last is_last s kept path 1 (answers_of done) done x y same traced w in
+      let alike = goes_alike p (Directly p job) G last is_last s kept path 1 (answers_of done) done x y same traced w in
       record {
         last = last;
         alike = alike;
         calls = refl;
-        forks = forks_numbered p (Directly p (Whole call)) (IsCallAt p (suc depth)) s kept path 1 x.store.elements;
-        each = forks_each p (Directly p (Whole call)) (IsCallAt p (suc depth)) s kept path 1 x.store.elements;
+        forks = forks_numbered p (Directly p job) G s kept path 1 x.store.elements;
+        each = forks_each p (Directly p job) G s kept path 1 x.store.elements;
         fault = faults (alone m (placed path 1 s) x.store.elements).fault alike.ends;
       }
 
@@ -174,38 +191,36 @@ module _ (p : Program) (ok : IsAccepted p) (only : HasOnlyTasks p) where
       let place : line ≡ f.line = cc in
       rw (same, place) refl
 
-  pub body_done : (x y : Owner) (path : List ℕ) (depth : ℕ) (call : CallTree) (ended : Ended) → IsCallAt p depth call
-      → x.store.program ≡ p → EndsSo stands_at Moves never p (Whole call) x y ended
-      → Body x y path depth call ended (calls_of (alone m (placed path 1 (script_of p (Whole call))) x.store.elements).forks)
-  body_done x y path depth call E.Done is same e = body_with x y path depth call E.Done e.0 O.End is same tt e.1 e.2.went end_none
-  body_done x y path depth call (E.Fault law line) is same e =
-      body_with x y path depth call (E.Fault law line) e.0 (O.Fault law line) is same tt e.1 e.2.went (fault_some law line)
-  body_done x y path depth call E.Halted is same e = absurd e.5.at_halt
+  pub body_done : (x y : Owner) (path : List ℕ) (job : Job) (G : CallTree → Type 0) (ended : Ended)
+      → Keeps (Directly p job) (OfCall G) (script_of p job) → end_of p job ≡ O.End ∷ [] → x.store.program ≡ p
+      → EndsSo stands_at Moves never p job x y ended
+      → Body x y path job G ended (calls_of (alone m (placed path 1 (script_of p job)) x.store.elements).forks)
+  body_done x y path job G E.Done kept end same e = body_with x y path job G E.Done e.0 O.End kept end same tt e.1 e.2.went end_none
+  body_done x y path job G (E.Fault law line) kept end same e =
+      body_with x y path job G (E.Fault law line) e.0 (O.Fault law line) kept end same tt e.1 e.2.went (fault_some law line)
+  body_done x y path job G E.Halted kept end same e = absurd e.5.at_halt
 
   -- the children of the body stand in a frame over its task's
-  abbrev opened_over : Stack → List CallTree → Stack
+  abbrev pub opened_over : Stack → List CallTree → Stack
   opened_over s cs = record { top = record { calls = cs; finished = 0 }; below = s.top ∷ s.below; tasks = s.tasks + length cs; room = s.room }
 
   begun_over : (s : Stack) (call : CallTree) (cs : List CallTree) → next_of s ≡ Some call → with_children (begun s) cs ≡ opened_over s cs
   begun_over s call cs next = ap (λ (o : Option CallTree). with_children (begun_at o s) cs) next
 
-  claimed_over : (x : Owner) (s : Stack) (call : CallTree) → IsClaimed p x s call → x.frames ≡ opened_over s []
+  pub claimed_over : (x : Owner) (s : Stack) (call : CallTree) → IsClaimed p x s call → x.frames ≡ opened_over s []
   claimed_over x s call h =
       let none : s.tasks + 0 ≡ s.tasks = omega arith in
       h.frames ∙ ap (λ (o : Option CallTree). begun_at o s) h.next
       ∙ ap (λ (n : ℕ). let t : Stack = record { top = record { calls = []; finished = 0 }; below = s.top ∷ s.below; tasks = n; room = s.room } in t) (sym none)
 
-  waits_more : (s : Stack) (call : CallTree) (cs : List CallTree) → next_of s ≡ Some call
+  pub waits_more : (s : Stack) (call : CallTree) (cs : List CallTree) → next_of s ≡ Some call
       → (waiting (opened_over s cs) + 1 ≡ waiting s + length cs) × (1 ≤ waiting s)
   waits_more s call cs next =
       let lt = slice_get_within s.top.calls s.top.finished call next in
       (omega arith, omega arith)
 
-  claimed_at : (x : Owner) (s : Stack) (call : CallTree) → IsClaimed p x s call → IsCallAt p (length s.below) call
+  pub claimed_at : (x : Owner) (s : Stack) (call : CallTree) → IsClaimed p x s call → IsCallAt p (length s.below) call
   claimed_at x s call h = good_at p (length s.below) s.top.calls s.top.finished call h.live.good.top h.next
-
-  pub task_on : (x : Owner) (s : Stack) (call : CallTree) → IsClaimed p x s call → (is_loop_at p call.task ≡ false) × (call.task ≤ DEFINITIONS)
-  task_on x s call h = let at = claimed_at x s call h in (no_loop call.task at.2, at.2)
 
   pub begins : (x : Owner) (s : Stack) (call : CallTree) → IsClaimed p x s call → Begins stands_at Moves never p (Whole call) x
   begins x s call h = record {
@@ -219,7 +234,7 @@ module _ (p : Program) (ok : IsAccepted p) (only : HasOnlyTasks p) where
   }
 
   module _ (x y : Owner) (s : Stack) (call : CallTree) (ended : Ended) (least : Option FaultRun) (h : IsClaimed p x s call)
-      (e : EndsSo stands_at Moves never p (Whole call) x y ended) where
+      (single : is_loop_at p call.task ≡ false) (e : EndsSo stands_at Moves never p (Whole call) x y ended) where
     abbrev path : List ℕ
     path = entry_path s.below (suc s.top.finished)
 
@@ -232,16 +247,20 @@ module _ (p : Program) (ok : IsAccepted p) (only : HasOnlyTasks p) where
     abbrev ran : ℕ
     ran = s.tasks - waiting s
 
-    body : Body x y path (length s.below) call ended cs
-    body = body_done x y path (length s.below) call ended (claimed_at x s call h) h.live.program e
+    body : Body x y path (Whole call) (IsCallAt p (suc (length s.below))) ended cs
+    body =
+        let end : end_of p (Whole call) ≡ O.End ∷ [] = rw single refl in
+        body_done x y path (Whole call) (IsCallAt p (suc (length s.below))) ended (call_keeps (length s.below) call (claimed_at x s call h) single)
+        end h.live.program e
 
     -- the run from here is the body and what is left behind it
-    run_on : left p (with_frames x s) least ≡ answered_from p (least_with least path (fault_of ended)) (suc ran) (rest_of p (opened_over s cs) a.store)
+    run_on : left p (with_frames x s) least
+        ≡ answered_from p (least_with least path None (fault_of ended)) (suc ran) x.indexes (rest_of p (opened_over s cs) a.store)
     run_on =
-        ap (answered_from p least ran) (rest_begun p s call x.store.elements cs h.live.good h.next body.forks body.each)
-        ∙ answered_noted p least ran path call a.answers a.fault a.steps (rest_of p (with_children (begun s) cs) a.store)
-        ∙ ap (λ (t : Stack). answered_from p (least_with least path a.fault) (suc ran) (rest_of p t a.store)) (begun_over s call cs h.next)
-        ∙ ap (λ (f : Option Fault). answered_from p (least_with least path f) (suc ran) (rest_of p (opened_over s cs) a.store)) body.fault
+        ap (answered_from p least ran x.indexes) (rest_begun p s call x.store.elements cs h.live.good h.next body.forks body.each)
+        ∙ answered_noted p least ran x.indexes path call a.answers a.fault a.steps (rest_of p (with_children (begun s) cs) a.store)
+        ∙ ap (λ (t : Stack). answered_from p (least_with least path None a.fault) (suc ran) x.indexes (rest_of p t a.store)) (begun_over s call cs h.next)
+        ∙ ap (λ (f : Option Fault). answered_from p (least_with least path None f) (suc ran) x.indexes (rest_of p (opened_over s cs) a.store)) body.fault
 
     over_is : y.over ≡ over_all (opened_over s []) false cs
     over_is =
@@ -259,7 +278,7 @@ module _ (p : Program) (ok : IsAccepted p) (only : HasOnlyTasks p) where
         let room = h.live.room in
         let counted = h.live.counted in
         let more : TASKS < suc ran + length (tasks_of p (rest_of p (opened_over s cs) a.store).entries) = omega arith in
-        run_on ∙ answered_limit p (least_with least path (fault_of ended)) (suc ran) (rest_of p (opened_over s cs) a.store) more
+        run_on ∙ answered_limit p (least_with least path None (fault_of ended)) (suc ran) x.indexes (rest_of p (opened_over s cs) a.store) more
 
     module _ (o : y.over ≡ false) where
       fit : Fitting (opened_over s []) cs
@@ -289,6 +308,7 @@ module _ (p : Program) (ok : IsAccepted p) (only : HasOnlyTasks p) where
             room = ap (λ (t : Stack). t.room) frames_are ∙ h.live.room;
             few = subst (λ (t : Stack). t.tasks ≤ t.room) (sym frames_are) enough;
             counted = subst (λ (t : Stack). waiting t ≤ t.tasks) (sym frames_are) waiting_few;
+            few_indexes = rw body.alike.indexes h.live.few_indexes;
           }
 
       pub below_short : length y.frames.below ≤ DEPTH + 1
@@ -302,15 +322,17 @@ module _ (p : Program) (ok : IsAccepted p) (only : HasOnlyTasks p) where
       pub path_on : path_over y.frames.below ≡ path
       path_on = ap (λ (t : Stack). path_over t.below) frames_are
 
-      pub left_on : left p y (least_with least path (fault_of ended)) ≡ left p (with_frames x s) least
+      pub left_on : left p y (least_with least path None (fault_of ended)) ≡ left p (with_frames x s) least
       left_on =
           let waits = waits_more s call cs h.next in
           let counted = h.live.counted in
           let count : (s.tasks + length cs) - waiting (opened_over s cs) ≡ suc ran = omega arith in
-          let l = least_with least path (fault_of ended) in
-          ap (λ (t : Stack). answered_from p l (t.tasks - waiting t) (rest_of p t y.store.elements)) frames_are
-          ∙ ap (λ (store : List ℕ). answered_from p l ((s.tasks + length cs) - waiting (opened_over s cs)) (rest_of p (opened_over s cs) store)) body.alike.store
-          ∙ ap (λ (n : ℕ). answered_from p l n (rest_of p (opened_over s cs) a.store)) count
+          let l = least_with least path None (fault_of ended) in
+          ap (λ (t : Stack). answered_from p l (t.tasks - waiting t) y.indexes (rest_of p t y.store.elements)) frames_are
+          ∙ ap (λ (store : List ℕ). answered_from p l ((s.tasks + length cs) - waiting (opened_over s cs)) y.indexes (rest_of p (opened_over s cs) store))
+          body.alike.store
+          ∙ ap (λ (n : ℕ). answered_from p l n y.indexes (rest_of p (opened_over s cs) a.store)) count
+          ∙ ap (λ (n : ℕ). answered_from p l (suc ran) n (rest_of p (opened_over s cs) a.store)) body.alike.indexes
           ∙ sym run_on
 
       pub less_to_do : to_do y < to_do (with_frames x s)
@@ -336,14 +358,15 @@ live_finished p o t f h =
       room = sym room ∙ h.room;
       few = omega arith;
       counted = omega arith;
+      few_indexes = h.few_indexes;
     }
 
 pub left_finished : (p : Program) (o : Owner) (t : Stack) (least : Option FaultRun) → Finishes o.frames t → left p (with_frames o t) least ≡ left p o least
 left_finished p o t least f =
     let k = kin_all p o.frames t f in
-    ap (λ (n : ℕ). answered_from p least (n - waiting t) (rest_of p t o.store.elements)) (sym k.tasks)
-    ∙ ap (λ (n : ℕ). answered_from p least (o.frames.tasks - n) (rest_of p t o.store.elements)) (sym k.waits)
-    ∙ ap (λ (r : Run (machine_of p)). answered_from p least (o.frames.tasks - waiting o.frames) r) (sym (k.rest o.store.elements))
+    ap (λ (n : ℕ). answered_from p least (n - waiting t) o.indexes (rest_of p t o.store.elements)) (sym k.tasks)
+    ∙ ap (λ (n : ℕ). answered_from p least (o.frames.tasks - n) o.indexes (rest_of p t o.store.elements)) (sym k.waits)
+    ∙ ap (λ (r : Run (machine_of p)). answered_from p least (o.frames.tasks - waiting o.frames) o.indexes r) (sym (k.rest o.store.elements))
 
 pub to_do_finished : (p : Program) (o : Owner) (t : Stack) → Finishes o.frames t → to_do (with_frames o t) ≡ to_do o
 to_do_finished p o t f =
@@ -365,9 +388,9 @@ left_ended p o least h none below =
     let kept : o.frames.tasks ≤ TASKS = omega arith in
     let rest : rest_of p o.frames o.store.elements ≡ still_at (machine_of p) o.store.elements =
     rest_ended p o.frames o.store.elements long ∙ ap (λ (b : List Frame). rest_below p b o.store.elements) below in
-    ap (λ (n : ℕ). answered_from p least n (rest_of p o.frames o.store.elements)) count
-    ∙ ap (answered_from p least o.frames.tasks) rest
-    ∙ answered_still p least o.frames.tasks o.store.elements kept
+    ap (λ (n : ℕ). answered_from p least n o.indexes (rest_of p o.frames o.store.elements)) count
+    ∙ ap (answered_from p least o.frames.tasks o.indexes) rest
+    ∙ answered_still p least o.frames.tasks o.indexes o.store.elements kept h.few_indexes
 
 pub turn_finished : (p : Program) (o : Owner) (t : Stack) (before : Option FaultRun) (new : Owner) (after : Option FaultRun) (turn : Turn)
     → Finishes o.frames t → TurnIs p (with_frames o t) before new after turn → TurnIs p o before new after turn
@@ -377,9 +400,9 @@ turn_finished p o t before new after T.Ended f h = (sym (left_finished p o t bef
 turn_finished p o t before new after T.Over f h = sym (left_finished p o t before f) ∙ h
 
 -- a run begins with main alone
-pub live_opened : (p : Program) (o : Owner) → o.store.program ≡ p → o.frames ≡ opened TASKS → o.over ≡ false → IsLive p o
-live_opened p o program frames over =
-    let good : GoodStack p (opened TASKS) = record { top = ((is_main refl, refl, omega arith), tt); below = tt } in
+pub live_opened : (p : Program) (o : Owner) → o.store.program ≡ p → o.frames ≡ opened TASKS → o.over ≡ false → o.indexes ≡ 0 → IsLive p o
+live_opened p o program frames over none =
+    let good : GoodStack p (opened TASKS) = record { top = ((is_main refl, refl), tt); below = tt } in
     let some : waiting (opened TASKS) ≤ 1 = omega arith in
     record {
       program = program;
@@ -388,6 +411,7 @@ live_opened p o program frames over =
       room = ap (λ (t : Stack). t.room) frames;
       few = subst (λ (t : Stack). t.tasks ≤ t.room) (sym frames) (omega arith);
       counted = subst (λ (t : Stack). waiting t ≤ t.tasks) (sym frames) some;
+      few_indexes = omega (arith, none);
     }
 
 module _ (p : Program) (input : List ℕ) where
@@ -397,13 +421,17 @@ module _ (p : Program) (input : List ℕ) where
       ap (λ (es : List (Entry (machine_of p))). let r : Run (machine_of p) = record { store = x.store; entries = es } in r)
       (append-nil (x.entries ++ []) ∙ append-nil x.entries)
 
-  pub left_opened : (o : Owner) → o.store.elements ≡ opened_with p.families input → o.frames ≡ opened TASKS → left p o None ≡ outcome_of p input
+  pub left_opened : (o : Owner) → o.store.elements ≡ opened_with p.families input → o.frames ≡ opened TASKS → o.indexes ≡ 0
+      → left p o None ≡ outcome_of p input
   unfolding reference
-  left_opened o store frames =
-      let none : 1 - waiting (opened TASKS) ≡ 0 = omega arith in
+  left_opened o store frames none =
+      let waits : 1 - waiting (opened TASKS) ≡ 0 = omega arith in
       let r = whole (machine_of p) main_placed (opened_with p.families input) in
       let count : 0 + length (tasks_of p r.entries) ≡ length (tasks_of p r.entries) = omega arith in
-      ap (λ (t : Stack). answered_from p None (t.tasks - waiting t) (rest_of p t o.store.elements)) frames
-      ∙ ap (λ (n : ℕ). answered_from p None n (rest_of p (opened TASKS) o.store.elements)) none
-      ∙ ap (answered_from p None 0) (main_rest o.store.elements ∙ ap (whole (machine_of p) main_placed) store)
-      ∙ ap (λ (n : ℕ). answered n (length (indexes_of p r.entries)) (faults_of p r.entries) r.store) count
+      let count_indexes : 0 + length (indexes_of p r.entries) ≡ length (indexes_of p r.entries) = omega arith in
+      ap (λ (t : Stack). answered_from p None (t.tasks - waiting t) o.indexes (rest_of p t o.store.elements)) frames
+      ∙ ap (λ (n : ℕ). answered_from p None n o.indexes (rest_of p (opened TASKS) o.store.elements)) waits
+      ∙ ap (λ (n : ℕ). answered_from p None 0 n (rest_of p (opened TASKS) o.store.elements)) none
+      ∙ ap (answered_from p None 0 0) (main_rest o.store.elements ∙ ap (whole (machine_of p) main_placed) store)
+      ∙ ap (λ (n : ℕ). answered n (0 + length (indexes_of p r.entries)) (faults_of p r.entries) r.store) count
+      ∙ ap (λ (n : ℕ). answered (length (tasks_of p r.entries)) n (faults_of p r.entries) r.store) count_indexes

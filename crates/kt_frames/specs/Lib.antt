@@ -3,3 +3,4 @@ pub mod Layout
 pub mod OnlyTasks
 pub mod Owned
 pub mod Rest
+pub mod Loops

@@ -49,6 +49,7 @@ pub record Moves (old : Owner) (operation : Operation) (new : Owner) : Type 0 wh
   pub found : Finds old.store operation
   pub frames : new.frames ≡ frames_after operation old.frames
   pub over : new.over ≡ over_after operation old.frames old.over
+  pub indexes : new.indexes ≡ old.indexes
 
 -- the store is one of this program, and a task runs
 pub record Stands (owner : Owner) (p : Program) : Type 0 where

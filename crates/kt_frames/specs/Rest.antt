@@ -1,6 +1,6 @@
 -- What is left of a run where the frames stand so, and the answer that the run comes to.
 use Rattle.std.specs.Prelude.{◌≡◌, ◌≤◌, ◌<◌, ℕ, suc, ◌+◌, ◌-◌, false, List, [], ◌∷◌, length, drop, Option, Some, None, if◌then◌else◌}
-use Rattle.kt_law.specs.declared.limits.TheConstants.{DEFINITIONS, TASKS}
+use Rattle.kt_law.specs.declared.limits.TheConstants.{INDEXES, TASKS}
 use Rattle.kt_order.specs.Machine.{Machine}
 use Rattle.kt_order.specs.Sequential.{Run, each, joined, still_at, whole}
 use Rattle.kt_prog.specs.Calls.{CallTree, Whole}
@@ -17,8 +17,8 @@ use Rattle.kt_body.specs.declared.ops.Ended.{Ended}
 use Rattle.kt_body.specs.declared.ops.Ended.TheVariants as E
 use Rattle.kt_frames.specs.Stack.{Frame, Stack, begun, entry_path, finished_top, next_of, IsRunning}
 use Rattle.kt_frames.specs.declared.owner.Owner.{Owner}
-use Rattle.kt_frames.specs.declared.owner.Turn.{Turn}
-use Rattle.kt_frames.specs.declared.owner.Turn.TheVariants as T
+use Rattle.kt_frames.specs.declared.turn.Turn.{Turn}
+use Rattle.kt_frames.specs.declared.turn.Turn.TheVariants as T
 
 abbrev pub EachCall : (CallTree → Type 0) → List CallTree → Type 0
 EachCall G [] = Unit {0}
@@ -29,9 +29,9 @@ abbrev pub placed_from : List Frame → ℕ → List CallTree → List Placed
 placed_from below n [] = []
 placed_from below n (c ∷ cs) = record { path = entry_path below n; job = Whole c } ∷ placed_from below (suc n) cs
 
--- a call of a path of this length, neither a loop's nor a kernel's
+-- a call of a path of this length
 abbrev pub IsCallAt : Program → ℕ → CallTree → Type 0
-IsCallAt p depth c = Fits p c × (c.depth ≡ depth) × (c.task ≤ DEFINITIONS)
+IsCallAt p depth c = Fits p c × (c.depth ≡ depth)
 
 abbrev pub GoodBelow : Program → List Frame → Type 0
 GoodBelow p [] = Unit {0}
@@ -77,22 +77,23 @@ abbrev pub with_least : Option FaultRun → List FaultRun → List FaultRun
 with_least None faults = faults
 with_least (Some f) faults = f ∷ faults
 
-abbrev pub least_with : Option FaultRun → List ℕ → Option Fault → Option FaultRun
-least_with least path None = least
-least_with least path (Some f) = Some (earlier least (record { path = path; index = None; fault = f.law; line = f.line }))
+-- with the fault of a body, if it had one
+abbrev pub least_with : Option FaultRun → List ℕ → Option ℕ → Option Fault → Option FaultRun
+least_with least path index None = least
+least_with least path index (Some f) = Some (earlier least (record { path = path; index = index; fault = f.law; line = f.line }))
 
 module _ (p : Program) where
-  -- the answer where so many tasks were run, this is the least of their faults, and this run is left
-  abbrev pub answered_from : Option FaultRun → ℕ → Run (machine_of p) → Ran
-  answered_from least ran r =
-      answered (ran + length (tasks_of p r.entries)) (length (indexes_of p r.entries)) (with_least least (faults_of p r.entries)) r.store
+  -- the answer where so many tasks and indexes were run, this is the least of their faults, and this run is left
+  abbrev pub answered_from : Option FaultRun → ℕ → ℕ → Run (machine_of p) → Ran
+  answered_from least ran indexes r =
+      answered (ran + length (tasks_of p r.entries)) (indexes + length (indexes_of p r.entries)) (with_least least (faults_of p r.entries)) r.store
 
 abbrev pub fault_of : Ended → Option Fault
 fault_of E.Done = None
 fault_of (E.Fault law line) = Some (record { law = law; line = line })
 fault_of E.Halted = None
 
--- the owner stands between two tasks of a run of this program, which kept the limit so far
+-- the owner stands between two calls of a run of this program, which kept the limits so far
 pub record IsLive (p : Program) (o : Owner) : Type 0 where
   pub program : o.store.program ≡ p
   pub good : GoodStack p o.frames
@@ -100,12 +101,13 @@ pub record IsLive (p : Program) (o : Owner) : Type 0 where
   pub room : o.frames.room ≡ TASKS
   pub few : o.frames.tasks ≤ o.frames.room
   pub counted : waiting o.frames ≤ o.frames.tasks
+  pub few_indexes : o.indexes ≤ INDEXES
 
 -- what the run comes to from here
 abbrev pub left : Program → Owner → Option FaultRun → Ran
-left p o least = answered_from p least (o.frames.tasks - waiting o.frames) (rest_of p o.frames o.store.elements)
+left p o least = answered_from p least (o.frames.tasks - waiting o.frames) o.indexes (rest_of p o.frames o.store.elements)
 
--- how many tasks there may be yet, and those that wait
+-- how many calls there may be yet, and those that wait
 abbrev pub to_do : Owner → ℕ
 to_do o = (o.frames.room - o.frames.tasks) + waiting o.frames
 
@@ -113,9 +115,9 @@ abbrev pub limit_ran : Ran
 limit_ran = record { outcome = O.Limit; tasks = 0; indexes = 0 }
 
 abbrev pub ended_ran : Owner → Option FaultRun → Ran
-ended_ran o least = record { outcome = fault_or_rows o.store.elements (with_least least []); tasks = o.frames.tasks; indexes = 0 }
+ended_ran o least = record { outcome = fault_or_rows o.store.elements (with_least least []); tasks = o.frames.tasks; indexes = o.indexes }
 
--- the next task was run, and how the run stands then; or there is none more, or there were too many
+-- the next call was run, and how the run stands then; or there is none more, or there were too many
 abbrev pub TurnIs : Program → Owner → Option FaultRun → Owner → Option FaultRun → Turn → Type 0
 TurnIs p old before new after T.Ran = IsLive p new × (left p new after ≡ left p old before) × (to_do new < to_do old)
 TurnIs p old before new after T.Ended = (left p old before ≡ ended_ran new after) × (new.store.program ≡ p)
@@ -132,7 +134,7 @@ Claims old new None = Finishes old new × (next_of new ≡ None) × (new.below �
 Claims old new (Some call) = (t : Stack) × Finishes old t × (next_of t ≡ Some call) × (new ≡ begun t)
 
 abbrev pub with_frames : Owner → Stack → Owner
-with_frames o s = record { store = o.store; frames = s; over = o.over }
+with_frames o s = record { store = o.store; frames = s; over = o.over; indexes = o.indexes }
 
 -- the owner is live but for the call of this stack that it has just claimed
 pub record IsClaimed (p : Program) (o : Owner) (s : Stack) (call : CallTree) : Type 0 where

@@ -23,15 +23,19 @@ pub fn least_of(least: Option<FaultAt>, fault: FaultAt) -> FaultAt
     }
 }
 
-/// The least fault once the body of the task that runs has ended so.
-pub fn least_after(least: Option<FaultAt>, ended: Ended, frames: &Frames) -> Option<FaultAt>
+/// The least fault once the body of the task that runs, or of this index of the loop that runs, has ended so.
+pub fn least_after(
+    least: Option<FaultAt>,
+    ended: Ended,
+    frames: &Frames,
+    index: Option<u32>,
+) -> Option<FaultAt>
     requires { length frames.now.below ≤ PATH + 1 }
-    ensures { result ≡ least_with least (path_over frames.now.below) (fault_of ended) }
+    ensures { result ≡ least_with least (path_over frames.now.below) index (fault_of ended) }
 {
     match ended {
         Ended::Fault(fault, line) => {
             let path = frames.path();
-            let index = None;
             Some(least_of(
                 least,
                 FaultAt {

@@ -3,7 +3,7 @@ ghost use Rattle.std.specs.Prelude.{◌≡◌, is_some, map};
 ghost use Rattle.kt_prog.specs.Targets.{kernel_named};
 ghost use Rattle.kt_frames.specs.OnlyTasks.{all_true, body_forks_tasks, forks_tasks, is_main_of_tasks, is_task, only_tasks, what_forks_tasks};
 
-use kt_prog::{Main, Name, Program, Stmt, Task, What};
+use kt_prog::{Kernel, Main, Name, Program, Stmt, Task, What};
 
 /// Whether the program declares no loop and forks no kernel.
 pub fn has_only_tasks(program: &Program) -> bool
@@ -46,8 +46,10 @@ fn are_mains(mains: &[Main]) -> bool
 fn is_kernel(name: &Name) -> bool
     ensures { result ≡ is_some (kernel_named name.now) }
 {
-    let name = name.as_str();
-    "k_mul" == name || "k_minplus" == name || "k_stencil" == name || "k_scan" == name
+    match Kernel::named(name) {
+        Some(_) => true,
+        None => false,
+    }
 }
 
 /// Whether none of the statements forks a kernel.

@@ -4,11 +4,13 @@
 mod faults;
 mod frames;
 mod kinds;
+mod loops;
 mod opening;
 mod owner;
 mod run;
 #[cfg(test)]
 mod tests;
+mod turn;
 
 pub use frames::{Frames, Pushed};
 pub use kinds::has_only_tasks;

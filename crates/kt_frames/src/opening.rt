@@ -25,5 +25,6 @@ pub fn open<'a>(alloc: Global, program: &'a Program, input: &[u64]) -> Result<Ow
         store,
         frames,
         over: false,
+        indexes: 0,
     })
 }

@@ -4,29 +4,30 @@ ghost use Rattle.kt_prog.specs.Accepted.{IsAccepted};
 ghost use Rattle.kt_prog.specs.Objects.{elements_of, inputs_of};
 ghost use Rattle.kt_prog.specs.Outcome.{outcome_of};
 ghost use Rattle.kt_prog.specs.declared.runs.Outcome.TheVariants.{Rows};
-ghost use Rattle.kt_frames.specs.OnlyTasks.{HasOnlyTasks};
 ghost use Rattle.kt_frames.specs.Rest.{ended_ran, limit_ran};
 
 use crate::opening::open;
-use crate::owner::{Owner, Turn, run_next};
+use crate::owner::Owner;
+use crate::turn::{Turn, run_next};
 use kt_law::NoMemory;
 use kt_prog::{FaultAt, Outcome, Program, Ran};
+use kt_tiles::Tiles;
 use sqlite_items::Items;
 use std::alloc::Global;
 
-/// Runs the program on this input: `main`, and after each body the tasks that it forked, in order. The answer is that of
-/// the reference run with its counts.
+/// Runs the program on this input: `main`, and after each body the calls that it forked, in order, a loop's indexes in
+/// rising order. The answer is that of the reference run with its counts.
 pub fn run_owner(alloc: Global, program: &Program, input: &[u64]) -> Result<Ran, NoMemory>
     requires accepted { IsAccepted program.now }
-    requires tasks { HasOnlyTasks program.now }
     requires whole { length input.now ≡ inputs_of program.now.families }
     ensures ran { IfOk result (λ ran. ran ≡ outcome_of program.now input.now) }
     ensures rows { IfOk result (λ ran. (rows : List ℕ) → ran.outcome ≡ Rows rows → length rows ≡ elements_of program.now.families) }
 {
     let mut owner = open(alloc, program, input)?;
+    let mut tiles = Tiles::new(alloc)?;
     let mut least = None;
     'turns: loop {
-        match run_next(program, &mut owner, &mut least) {
+        match run_next(program, &mut owner, &mut least, &mut tiles) {
             Turn::Ran => {}
             Turn::Ended => return Ok(ended(owner, least)),
             Turn::Over => return Ok(over()),
@@ -34,7 +35,7 @@ pub fn run_owner(alloc: Global, program: &Program, input: &[u64]) -> Result<Ran,
     }
 }
 
-/// What a run comes to that has more tasks than the limit allows.
+/// What a run comes to that has more tasks or indexes than the limits allow.
 fn over() -> Ran
     ensures { result ≡ limit_ran }
 {
@@ -51,6 +52,7 @@ fn ended(owner: Owner, least: Option<FaultAt>) -> Ran
     ensures rows { (rows : List ℕ) → result.outcome ≡ Rows rows → length rows ≡ elements_of owner.entry.store.program.families }
 {
     let tasks = owner.frames.tasks();
+    let indexes = owner.indexes;
     let outcome = match least {
         Some(fault) => Outcome::Fault(fault),
         None => Outcome::Rows(Items::from_vec(owner.store.into_elements())),
@@ -58,6 +60,6 @@ fn ended(owner: Owner, least: Option<FaultAt>) -> Ran
     Ran {
         outcome,
         tasks,
-        indexes: 0,
+        indexes,
     }
 }

@@ -7,10 +7,10 @@ use Rattle.kt_frames.proofs.opening.open.Goals as goal
 
 pub returns-clause-live : goal.returns-clause-live
 returns-clause-live c =
-    let o : Owner = record { store = c.in_ok-store.store; frames = c.in_ok-frames.frames; over = false } in
-    live_opened c.args.program.now o (ap (λ (s : StoreState). s.program) c.in_ok-store.ensures) c.in_ok-frames.ensures refl
+    let o : Owner = record { store = c.in_ok-store.store; frames = c.in_ok-frames.frames; over = false; indexes = 0 } in
+    live_opened c.args.program.now o (ap (λ (s : StoreState). s.program) c.in_ok-store.ensures) c.in_ok-frames.ensures refl refl
 
 pub returns-clause-whole : goal.returns-clause-whole
 returns-clause-whole c =
-    let o : Owner = record { store = c.in_ok-store.store; frames = c.in_ok-frames.frames; over = false } in
-    left_opened c.args.program.now c.args.input.now o (ap (λ (s : StoreState). s.elements) c.in_ok-store.ensures) c.in_ok-frames.ensures
+    let o : Owner = record { store = c.in_ok-store.store; frames = c.in_ok-frames.frames; over = false; indexes = 0 } in
+    left_opened c.args.program.now c.args.input.now o (ap (λ (s : StoreState). s.elements) c.in_ok-store.ensures) c.in_ok-frames.ensures refl

@@ -2,7 +2,7 @@
 use Rattle.std.proofs.Common.{sym, ◌∙◌}
 use Rattle.kt_frames.specs.Rest.{with_frames}
 use Rattle.kt_frames.proofs.Turns.{live_finished, left_finished, left_ended, turn_finished}
-use Rattle.kt_frames.proofs.owner.run_next.Goals as goal
+use Rattle.kt_frames.proofs.turn.run_next.Goals as goal
 
 pub run_claimed-requires-clause-claimed : goal.run_claimed-requires-clause-claimed
 run_claimed-requires-clause-claimed c =

@@ -4,7 +4,7 @@ use Rattle.kt_prog.specs.Calls.{CallTree}
 use Rattle.kt_frames.specs.Stack.{IsRunning, next_of, begun_at}
 use Rattle.kt_frames.specs.Rest.{Finishes, stays, more}
 use Rattle.kt_frames.proofs.Layouts.{ended_none, not_running}
-use Rattle.kt_frames.proofs.owner.claim.Goals as goal
+use Rattle.kt_frames.proofs.turn.claim.Goals as goal
 
 pub frames-init : goal.frames-init
 frames-init c = stays
