@@ -1,10 +1,9 @@
 -- How a job's reply is an answer.
-use Rattle.std.proofs.Common.{◌≡◌, ℕ, List, [], true, false, Some, None, Result, Ok, Err, refl, ap, sym, subst, ◌∙◌}
+use Rattle.std.proofs.Common.{◌≡◌, ℕ, Bool, List, [], true, false, Some, None, Result, Ok, Err, refl, ap, sym, subst, ◌∙◌}
 use Rattle.std.specs.Prelude.{IfOk}
 use Rattle.kt_io.specs.Ending.{Said}
 use Rattle.kt_law.specs.declared.places.Refusal.{Refusal}
 use Rattle.kt_prog.specs.Accepted.{IsAccepted}
-use Rattle.kt_frames.specs.OnlyTasks.{only_tasks}
 use Rattle.kt_prog.specs.Refusals.{refusal_of, noted}
 use Rattle.kt_prog.specs.declared.programs.Program.{Program}
 use Rattle.kt_print.specs.declared.lines.Line.{Line}
@@ -41,6 +40,7 @@ never_accepted one_job is_read bytes r (broken {p = q} {from = place} other h) p
     let same = (one_job bytes p q from place job other).0 in
     not_accepted q r h (subst IsAccepted same accepted)
 
-pub same_kind : OneJob → (bytes : List ℕ) (p q : Program) (from place : ℕ) → IsJob bytes p from → only_tasks p ≡ true → IsJob bytes q place → only_tasks q ≡ true
-same_kind one_job bytes p q from place job only other =
-    subst (λ p. only_tasks p ≡ true) (one_job bytes p q from place job other).0 only
+pub same_kind : OneJob → (is_run : Program → Bool) (bytes : List ℕ) (p q : Program) (from place : ℕ) → IsJob bytes p from → is_run p ≡ true
+    → IsJob bytes q place → is_run q ≡ true
+same_kind one_job is_run bytes p q from place job built other =
+    subst (λ p. is_run p ≡ true) (one_job bytes p q from place job other).0 built

@@ -151,11 +151,11 @@ module _ (one_job : OneJob) (one_refusal : OneRefusal) (is_read : JobIsRead) whe
       let texts : a.text ≡ b.text = ap (λ (x : Answered). x.text) h in
       ap (λ exit. let r : Said Exit = record { exit = exit; text = a.text } in r) exits ∙ ap (λ text. let r : Said Exit = record { exit = b.exit; text = text } in r) texts
 
-  one_run_answer : (job : List ℕ) (a b : Said Exit) → AnswersRun job a → AnswersRun job b → a ≡ b
-  one_run_answer job a b (mixed reads accepted no_tasks) (mixed other also none) = refl
-  one_run_answer job a b (mixed {p} {from} reads accepted more) (run only k) = absurd (both (only p from reads accepted) more)
-  one_run_answer job a b (run only h) (mixed {p} {from} reads accepted more) = absurd (both (only p from reads accepted) more)
-  one_run_answer job a b (run only h) (run also k) = same_reply a b (one_run job (answered_by a) (answered_by b) h k)
+  one_run_answer : (is_run : Program → Bool) (job : List ℕ) (a b : Said Exit) → AnswersRun is_run job a → AnswersRun is_run job b → a ≡ b
+  one_run_answer is_run job a b (mixed reads accepted no_tasks) (mixed other also none) = refl
+  one_run_answer is_run job a b (mixed {p} {from} reads accepted more) (run only k) = absurd (both (only p from reads accepted) more)
+  one_run_answer is_run job a b (run only h) (mixed {p} {from} reads accepted more) = absurd (both (only p from reads accepted) more)
+  one_run_answer is_run job a b (run only h) (run also k) = same_reply a b (one_run job (answered_by a) (answered_by b) h k)
 
   one_job_answer : (Given : List ℕ → Said Exit → Type 0) (job : List ℕ) → ((a b : Said Exit) → Given job a → Given job b → a ≡ b)
       → (a b : Said Exit) → AnswersJob Given job a → AnswersJob Given job b → a ≡ b
@@ -166,8 +166,8 @@ module _ (one_job : OneJob) (one_refusal : OneRefusal) (is_read : JobIsRead) whe
 
   one_command : (command : Option Command) (job : List ℕ) (a b : Said Exit) → AnswersCommand command job a → AnswersCommand command job b → a ≡ b
   one_command (Some C.Check) job a b h k = one_job_answer AnswersCheck job (one_check job) a b h k
-  one_command (Some C.Seq) job a b h k = one_job_answer AnswersRun job (one_run_answer job) a b h k
-  one_command (Some (C.Sim workers number)) job a b h k = one_job_answer AnswersRun job (one_run_answer job) a b h k
+  one_command (Some C.Seq) job a b h k = one_job_answer (AnswersRun (λ p. true)) job (one_run_answer (λ p. true) job) a b h k
+  one_command (Some (C.Sim workers number)) job a b h k = one_job_answer (AnswersRun only_tasks) job (one_run_answer only_tasks job) a b h k
   one_command (Some (C.Gen kind size number)) job a b h k = h ∙ sym k
   one_command (Some (C.Run workers)) job a b h k = h ∙ sym k
   one_command (Some (C.Demo kind size number workers)) job a b h k = h ∙ sym k

@@ -20,6 +20,8 @@ use Rattle.kaapi.specs.declared.exits.Exit.{Exit}
 use Rattle.kaapi.specs.declared.exits.Exit.TheVariants as E
 use Rattle.kaapi.specs.declared.asked.Asked.{Asked}
 use Rattle.kaapi.specs.declared.asked.Asked.TheVariants as A
+use Rattle.kaapi.specs.declared.asked.Way.{Way}
+use Rattle.kaapi.specs.declared.asked.Way.TheVariants as W
 
 -- the exits that are no answers
 abbrev pub faults : Faults Exit
@@ -37,15 +39,20 @@ pub data AnswersCheck (job : List ℕ) : Said Exit → Type 0 where
   refused : {r : Refusal} → IsRefused job r → AnswersCheck job (told E.Refused (L.Refused r))
   printed : {p : Program} {from : ℕ} → IsJob job p from → IsAccepted p → AnswersCheck job (record { exit = E.Done; text = canonical_text p })
 
--- to `seq` and to `sim`: what the job is answered that is run, unless its program is accepted and has more than tasks
-pub data AnswersRun (job : List ℕ) : Said Exit → Type 0 where
-  mixed : {p : Program} {from : ℕ} → IsJob job p from → IsAccepted p → only_tasks p ≡ false → AnswersRun job not_built
-  run : {reply : Said Exit} → ((p : Program) (from : ℕ) → IsJob job p from → IsAccepted p → only_tasks p ≡ true) →
-      IsAnswer job (record { status = number_of reply.exit; text = reply.text }) → AnswersRun job reply
+-- to `seq` and to `sim`: what the job is answered that is run, unless its program is accepted and is of those that aren't run yet
+pub data AnswersRun (is_run : Program → Bool) (job : List ℕ) : Said Exit → Type 0 where
+  mixed : {p : Program} {from : ℕ} → IsJob job p from → IsAccepted p → is_run p ≡ false → AnswersRun is_run job not_built
+  run : {reply : Said Exit} → ((p : Program) (from : ℕ) → IsJob job p from → IsAccepted p → is_run p ≡ true) →
+      IsAnswer job (record { status = number_of reply.exit; text = reply.text }) → AnswersRun is_run job reply
+
+-- `seq` runs every program, `sim` those that fork tasks alone
+abbrev pub run_by : Way → Program → Bool
+run_by W.Owner p = true
+run_by (W.Events choice) p = only_tasks p
 
 abbrev pub AnswersAsked : Asked → List ℕ → Said Exit → Type 0
 AnswersAsked A.Check job reply = AnswersCheck job reply
-AnswersAsked (A.Run way) job reply = AnswersRun job reply
+AnswersAsked (A.Run way) job reply = AnswersRun (run_by way) job reply
 
 -- to words that ask for an answer to a job, of which there may be so many bytes; `Given` says what a job of so few is answered
 pub data AnswersJob (Given : List ℕ → Said Exit → Type 0) (job : List ℕ) : Said Exit → Type 0 where
@@ -55,8 +62,8 @@ pub data AnswersJob (Given : List ℕ → Said Exit → Type 0) (job : List ℕ)
 -- to what the words ask for
 abbrev pub AnswersCommand : Option Command → List ℕ → Said Exit → Type 0
 AnswersCommand (Some C.Check) job reply = AnswersJob AnswersCheck job reply
-AnswersCommand (Some C.Seq) job reply = AnswersJob AnswersRun job reply
-AnswersCommand (Some (C.Sim workers number)) job reply = AnswersJob AnswersRun job reply
+AnswersCommand (Some C.Seq) job reply = AnswersJob (AnswersRun (λ p. true)) job reply
+AnswersCommand (Some (C.Sim workers number)) job reply = AnswersJob (AnswersRun only_tasks) job reply
 AnswersCommand (Some (C.Gen kind size number)) job reply = reply ≡ not_built
 AnswersCommand (Some (C.Run workers)) job reply = reply ≡ told E.Usage L.Usage
 AnswersCommand (Some (C.Demo kind size number workers)) job reply = reply ≡ told E.Usage L.Usage

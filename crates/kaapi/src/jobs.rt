@@ -2,12 +2,11 @@
 ghost use Rattle.std.specs.Prelude.{◌≡◌, ◌≤◌, ℕ, List, length, IfOk};
 ghost use Rattle.kt_prog.specs.Accepted.{IsAccepted};
 ghost use Rattle.kt_prog.specs.Objects.{elements_of, inputs_of};
-ghost use Rattle.kt_frames.specs.OnlyTasks.{HasOnlyTasks};
 ghost use Rattle.kt_prog.specs.Outcome.{outcome_of};
 ghost use Rattle.kt_prog.specs.declared.runs.Outcome.TheVariants.{Rows};
 ghost use Rattle.kt_open.specs.Answers.{IsAnswer, answered_run};
 ghost use Rattle.kt_read.specs.Jobs.{IsJob};
-ghost use Rattle.kaapi.specs.Answers.{AnswersAsked, AnswersCheck, AnswersRun, not_built, told};
+ghost use Rattle.kaapi.specs.Answers.{AnswersAsked, AnswersCheck, AnswersRun, not_built, run_by, told};
 ghost use Rattle.kaapi.specs.Exits.{number_of};
 ghost use Rattle.kaapi.specs.Jobs.{IsOpened};
 
@@ -77,16 +76,26 @@ fn reply_to_check(alloc: Global, job: &[u8]) -> Result<Reply, NoMemory>
     }
 }
 
+/// Whether programs of this kind are run in this way.
+fn is_run(way: Way, program: &Program) -> bool
+    ensures { result ≡ run_by way program.now }
+{
+    match way {
+        Way::Owner => true,
+        Way::Events(_) => has_only_tasks(program),
+    }
+}
+
 fn reply_to_run(alloc: Global, way: Way, job: &[u8]) -> Result<Reply, NoMemory>
     requires { length job.now ≤ JOB }
-    ensures { IfOk result (AnswersRun job.now) }
+    ensures { IfOk result (AnswersRun (run_by way) job.now) }
 {
     one_job();
     job_is_read();
     match open(alloc, job)? {
         Opened::Refused(refusal) => reply_with(alloc, Exit::Refused, &Line::Refused(refusal)),
         Opened::Accepted(program, from) => {
-            if has_only_tasks(&program) {
+            if is_run(way, &program) {
                 reply_to_data(alloc, way, job, &program, from)
             } else {
                 Ok(Reply::new(Exit::NotBuilt, Vec::from_slice(alloc, NOT_BUILT)?))
@@ -107,7 +116,7 @@ fn reply_to_data(
     requires within { from ≤ length job.now }
     requires reads { IsJob job.now program.now from }
     requires accepted { IsAccepted program.now }
-    requires tasks { HasOnlyTasks program.now }
+    requires built { run_by way program.now ≡ true }
     ensures { IfOk result (λ reply. IsAnswer job.now (record { status = number_of reply.exit; text = reply.text })) }
 {
     few_objects();
@@ -126,7 +135,7 @@ fn reply_to_data(
 
 fn run(alloc: Global, way: Way, program: &Program, input: &[u64]) -> Result<Reply, NoMemory>
     requires accepted { IsAccepted program.now }
-    requires tasks { HasOnlyTasks program.now }
+    requires built { run_by way program.now ≡ true }
     requires whole { length input.now ≡ inputs_of program.now.families }
     ensures { IfOk result (λ reply. record { status = number_of reply.exit; text = reply.text } ≡ answered_run program.now.families (outcome_of program.now input.now).outcome) }
 {
@@ -143,7 +152,7 @@ fn run(alloc: Global, way: Way, program: &Program, input: &[u64]) -> Result<Repl
 
 fn outcome(alloc: Global, way: Way, program: &Program, input: &[u64]) -> Result<Outcome, NoMemory>
     requires accepted { IsAccepted program.now }
-    requires tasks { HasOnlyTasks program.now }
+    requires built { run_by way program.now ≡ true }
     requires whole { length input.now ≡ inputs_of program.now.families }
     ensures outcome { IfOk result (λ outcome. outcome ≡ (outcome_of program.now input.now).outcome) }
     ensures rows { IfOk result (λ outcome. (rows : List ℕ) → outcome ≡ Rows rows → length rows ≡ elements_of program.now.families) }

@@ -89,7 +89,20 @@ const NESTED: &str =
     "main { let v = ((((((((((((((((((((((((((((((((((((((((((((((((((((((((((((((((";
 
 const A_LOOP: &str =
-    "object A of 1 output;\nloop c(i; cw(add) P) { P[0] add= i; }\nmain { fork c(3; A); }\ndata 5\n";
+    "object A of 1 output;\nloop c(i; cw(add) P) { P[0] add= i; }\nmain { fork c(3; A); fork c(4096; A); fork c(0; A); }\ndata\n";
+
+const INDEX_FAULT: &str =
+    "object A of 1;\nloop e(i; r P) { let q = 1 / (3 - i); }\nmain { fork e(3; A); fork e(4; A); fork e(4; A); }\ndata\n";
+
+const TOO_LONG_A_LOOP: &str =
+    "object A of 1;\nloop e(i; r P) { }\nmain { fork e(4096; A); fork e(4097; A); }\ndata\n";
+
+const KERNELS: &str =
+    "object A of 4 input output; object D of 4 input output; object B of 4 output; object C of 4 output;\nmain { fork k_mul(2, 2, 2, A, A, B); fork k_minplus(2, 2, 2, A, A, D); fork k_stencil(4, A, A, A, C); fork k_scan(4, 3, B, A); }\ndata\n1 2 3 4 9 9 1 9\n";
+
+const KERNEL_ROWS: &str = "A[0] 23 25 28 32\nD[0] 2 3 1 5\nB[0] 7 10 15 22\nC[0] 8 8 12 12\n";
+
+const SHORT_TILE: &str = "object A of 3; object B of 1;\nmain { fork k_scan(4, 0, B, A); }\ndata\n";
 
 const A_KERNEL: &str = "object A of 4;\nmain { if 0 { fork k_scan(4, 0, A, A); } }\ndata\n";
 
@@ -221,8 +234,21 @@ fn runs_end_in_faults_and_limits(rt: HostRuntime) -> Result<(), Fail> {
         ),
         answers("seq", TOO_MANY_STEPS, Exit::Fault, "fault F6 1 line 1\n"),
         answers("seq", TOO_MANY, Exit::Limit, "limit\n"),
-        answers("seq", A_LOOP, Exit::NotBuilt, "not built\n"),
-        answers("seq", A_KERNEL, Exit::NotBuilt, "not built\n"),
+        answers("sim 2 0", A_LOOP, Exit::NotBuilt, "not built\n"),
+        answers("sim 2 0", A_KERNEL, Exit::NotBuilt, "not built\n"),
+    ];
+    end_alike(&rt, rt.alloc(), &cases)
+}
+
+#[test]
+fn loops_and_kernels_are_run(rt: HostRuntime) -> Result<(), Fail> {
+    let cases = [
+        answers("seq", A_LOOP, Exit::Done, "A[0] 8386563\n"),
+        answers("seq", INDEX_FAULT, Exit::Fault, "fault F1 2 index 3 line 2\n"),
+        answers("seq", TOO_LONG_A_LOOP, Exit::Fault, "fault F7 main line 3\n"),
+        answers("seq", A_KERNEL, Exit::Done, ""),
+        answers("seq", SHORT_TILE, Exit::Fault, "fault F2 1 line 0\n"),
+        answers("seq", KERNELS, Exit::Done, KERNEL_ROWS),
     ];
     end_alike(&rt, rt.alloc(), &cases)
 }
