@@ -20,7 +20,7 @@ use Rattle.kt_prog.specs.declared.programs.Program.{Program}
 use Rattle.kt_prog.specs.declared.programs.Task.{Task}
 use Rattle.kt_prog.specs.declared.runs.Operation.{Operation}
 use Rattle.kt_prog.specs.declared.runs.Operation.TheVariants as O
-use Rattle.kt_body.specs.Endings.{zeroing}
+use Rattle.kt_prog.specs.Operations.{zeroing}
 use Rattle.kt_store.specs.Stores.{StoreState}
 use Rattle.kt_frames.specs.Loops.{placed_indexes}
 use Rattle.kt_frames.specs.Owned.{Moves}

@@ -2,8 +2,8 @@
 ghost use Rattle.std.specs.Prelude.{IfOk};
 ghost use Rattle.kt_prog.specs.Accepted.{IsAccepted};
 
-use kt_prog::Program;
 use kt_open::open_job;
+use kt_prog::Program;
 use std::alloc::Global;
 use std::test::Fail;
 

@@ -10,6 +10,8 @@ mod driven;
 #[cfg(test)]
 mod jobs;
 #[cfg(test)]
+mod loops;
+#[cfg(test)]
 mod runs;
 #[cfg(test)]
 mod stores;

@@ -119,8 +119,6 @@ fn comes_to(rt: &impl Abort, ran: &Ran, trial: &Trial) {
 fn by_owner(rt: &impl Abort, alloc: Global, trial: &Trial) -> Result<(), Fail> {
     let (program, input) = opened(alloc, trial.job)?;
     laws::few_objects();
-    let only = has_only_tasks(&program);
-    assert!(rt; only);
     let wanted = inputs(&program) as usize;
     assert!(rt; wanted == input.len());
     comes_to(rt, &run_owner(alloc, &program, &input)?, trial);
