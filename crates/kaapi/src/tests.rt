@@ -8,6 +8,7 @@ use std::process::Abort;
 use std::test::Fail;
 
 mod cut;
+mod loops;
 mod streams;
 
 const COUNTER: &str =
@@ -77,12 +78,30 @@ const TOO_MANY_STEPS: &str =
 const PRODUCT: &str =
     "object A[4] of 4 input;\nobject B[4] of 4 input;\nobject C[4] of 4 output;\ntask mul(int n, r P, r Q, cw(add) T) {\nfor i in 0..n { for j in 0..n { for k in 0..n {\nT[i * n + j] add= P[i * n + k] * Q[k * n + j];\n} } }\n}\nmain {\nfor i in 0..2 { for j in 0..2 { for k in 0..2 {\nfork mul(2, A[i * 2 + k], B[k * 2 + j], C[i * 2 + j]);\n} } }\n}\ndata\n1 2 3 4 5 6 7 8 1 0 0 1 0 1 1 0\n1 0 0 1 1 1 1 1 2 0 0 2 0 1 0 1\n";
 
+const PRODUCT_ROWS: &str = "C[0] 11 14 17 20\nC[1] 3 14 7 22\nC[2] 1 2 2 1\nC[3] 1 2 1 2\n";
+
 // The same by a kernel.
 const KERNEL_PRODUCT: &str =
     "object A[4] of 4 input;\nobject B[4] of 4 input;\nobject C[4] of 4 output;\nmain {\nfor i in 0..2 { for j in 0..2 { for k in 0..2 {\nfork k_mul(2, 2, 2, A[i * 2 + k], B[k * 2 + j], C[i * 2 + j]);\n} } }\n}\ndata\n1 2 3 4 5 6 7 8 1 0 0 1 0 1 1 0\n1 0 0 1 1 1 1 1 2 0 0 2 0 1 0 1\n";
 
 const KERNEL_PRODUCT_TEXT: &str =
     "object A[4] of 4 input;\nobject B[4] of 4 input;\nobject C[4] of 4 output;\nmain {\n  for i in 0..2 {\n    for j in 0..2 {\n      for k in 0..2 {\n        fork k_mul(2, 2, 2, A[i * 2 + k], B[k * 2 + j], C[i * 2 + j]);\n      }\n    }\n  }\n}\ndata\n";
+
+// The same with tiles that are too short.
+const SHORT_TILES: &str =
+    "object A[4] of 3 input;\nobject B[4] of 4 input;\nobject C[4] of 4 output;\nmain {\nfor i in 0..2 { for j in 0..2 { for k in 0..2 {\nfork k_mul(2, 2, 2, A[i * 2 + k], B[k * 2 + j], C[i * 2 + j]);\n} } }\n}\ndata\n1 2 3 4 5 6 7 8 1 0 0 1\n1 0 0 1 1 1 1 1 2 0 0 2 0 1 0 1\n";
+
+// The shortest walks between four nodes.
+const WALKS: &str =
+    "object D[4] of 4 input output;\nobject E[4] of 4;\ntask copy(r P, w Q) { for i in 0..4 { Q[i] = P[i]; } }\nmain {\nfor t in 0..4 { fork copy(D[t], E[t]); }\nfor i in 0..2 { for j in 0..2 { for k in 0..2 { fork k_minplus(2, 2, 2, D[i * 2 + k], D[k * 2 + j], E[i * 2 + j]); } } }\nfor t in 0..4 { fork copy(E[t], D[t]); }\nfor i in 0..2 { for j in 0..2 { for k in 0..2 { fork k_minplus(2, 2, 2, E[i * 2 + k], E[k * 2 + j], D[i * 2 + j]); } } }\n}\ndata\n0 3 18446744073709551615 0\n10 18446744073709551615 4 18446744073709551615\n18446744073709551615 18446744073709551615 1 18446744073709551615\n0 18446744073709551615 18446744073709551615 0\n";
+
+const WALK_ROWS: &str =
+    "D[0] 0 3 18446744073709551615 0\nD[1] 7 18446744073709551615 4 18446744073709551615\nD[2] 18446744073709551615 18446744073709551615 1 4\nD[3] 0 18446744073709551615 8 0\n";
+
+const SUMS: &str =
+    "object A[1] of 16 input output;\nobject P of 1;\nloop sums(i; int t, int m, r Q, cw(add) R) {\n  for u in t + 1..m {\n    R[u] add= Q[i];\n  }\n}\nmain {\n  for t in 0..1 {\n    fork sums(16; t, 1, A[t], P);\n  }\n  for t in 0..1 {\n    fork k_scan(16, t, P, A[t]);\n  }\n}\ndata\n0 1 4 9 16 25 36 49 64 81 100 121 144 169 196 225\n";
+
+const SUM_ROW: &str = "A[0] 0 1 5 14 30 55 91 140 204 285 385 506 650 819 1015 1240\n";
 
 // 64 signs `(`, of which the last nests too deep.
 const NESTED: &str =
@@ -200,12 +219,7 @@ fn runs_end_in_rows(rt: HostRuntime) -> Result<(), Fail> {
             "D[0] 0\nD[1] 0\nD[2] 0\nD[3] 0\n",
         ),
         answers("seq", MOST_STEPS, Exit::Done, ""),
-        answers(
-            "seq",
-            PRODUCT,
-            Exit::Done,
-            "C[0] 11 14 17 20\nC[1] 3 14 7 22\nC[2] 1 2 2 1\nC[3] 1 2 1 2\n",
-        ),
+        answers("seq", PRODUCT, Exit::Done, PRODUCT_ROWS),
         answers("seq", MANY, Exit::Done, "A[0] 16383\n"),
         answers("seq", DEEP, Exit::Done, "A[0] 32\n"),
         answers(
@@ -234,23 +248,45 @@ fn runs_end_in_faults_and_limits(rt: HostRuntime) -> Result<(), Fail> {
         ),
         answers("seq", TOO_MANY_STEPS, Exit::Fault, "fault F6 1 line 1\n"),
         answers("seq", TOO_MANY, Exit::Limit, "limit\n"),
-        answers("sim 2 0", A_LOOP, Exit::NotBuilt, "not built\n"),
-        answers("sim 2 0", A_KERNEL, Exit::NotBuilt, "not built\n"),
     ];
     end_alike(&rt, rt.alloc(), &cases)
+}
+
+// Loops and kernels are run in reference order, and not yet by events.
+fn end_in_order(rt: &impl Abort, alloc: Global, cases: &[Case]) -> Result<(), Fail> {
+    end_whole(rt, alloc, cases)?;
+    for case in cases {
+        let unbuilt = answers("sim 3 7", case.job, Exit::NotBuilt, "not built\n");
+        ends(rt, alloc, &unbuilt, (100, 100), (0, 0))?;
+    }
+    Ok(())
 }
 
 #[test]
 fn loops_and_kernels_are_run(rt: HostRuntime) -> Result<(), Fail> {
     let cases = [
         answers("seq", A_LOOP, Exit::Done, "A[0] 8386563\n"),
-        answers("seq", INDEX_FAULT, Exit::Fault, "fault F1 2 index 3 line 2\n"),
-        answers("seq", TOO_LONG_A_LOOP, Exit::Fault, "fault F7 main line 3\n"),
+        answers(
+            "seq",
+            INDEX_FAULT,
+            Exit::Fault,
+            "fault F1 2 index 3 line 2\n",
+        ),
+        answers(
+            "seq",
+            TOO_LONG_A_LOOP,
+            Exit::Fault,
+            "fault F7 main line 3\n",
+        ),
         answers("seq", A_KERNEL, Exit::Done, ""),
         answers("seq", SHORT_TILE, Exit::Fault, "fault F2 1 line 0\n"),
         answers("seq", KERNELS, Exit::Done, KERNEL_ROWS),
+        answers("seq", KERNEL_PRODUCT, Exit::Done, PRODUCT_ROWS),
+        answers("seq", SHORT_TILES, Exit::Fault, "fault F2 1 line 0\n"),
+        answers("seq", WALKS, Exit::Done, WALK_ROWS),
+        answers("seq", SUMS, Exit::Done, SUM_ROW),
     ];
-    end_alike(&rt, rt.alloc(), &cases)
+    end_in_order(&rt, rt.alloc(), &cases)
 }
 
 #[test]

@@ -9,7 +9,7 @@ use std::test::Fail;
 
 /// Streams of memory: the bytes of one call of each, how many the sink takes in all, and the calls that fail (none for 0).
 #[derive(Clone, Copy)]
-struct Streams {
+pub struct Streams {
     read: usize,
     write: usize,
     room: usize,
@@ -17,7 +17,7 @@ struct Streams {
     write_fails: u64,
 }
 
-const SOUND: Streams = Streams {
+pub const SOUND: Streams = Streams {
     read: 10,
     write: 1,
     room: 500,
@@ -25,7 +25,8 @@ const SOUND: Streams = Streams {
     write_fails: 0,
 };
 
-fn ends(
+/// A call ends so.
+pub fn ends(
     rt: &impl Abort,
     alloc: Global,
     words: &str,
