@@ -19,7 +19,7 @@ use Rattle.kt_prog.specs.declared.programs.What.TheVariants as V
 use Rattle.kt_prog.specs.declared.programs.What.TheOpen as W
 use Rattle.kt_print.specs.CanonicalExpressions.{Printed, print_layer, printed, expr_text}
 use Rattle.kt_print.specs.CanonicalStatements.{StmtText, argument_text, arguments_text, block_text, else_text, forked_text, what_text, stmt_layer as text_layer, text_of_what, text_of_stmt}
-use Rattle.kt_print.specs.CanonicalText.{canonical_text, family_text, main_text, task_text, task_head, params_text, param_text, body_text}
+use Rattle.kt_print.specs.CanonicalText.{canonical_text, family_text, main_text, task_text, task_head, params_text, param_text}
 use Rattle.kt_print.specs.CanonicalWords.{line, op_word}
 use Rattle.kt_canon.specs.Placeless.{SameButForPlaces, expr_layer, nowhere, placeless, placeless_arg, placeless_argument, placeless_expr, placeless_family, placeless_index, placeless_length, placeless_main, placeless_param, placeless_stmt, placeless_task, placeless_what, stmt_layer, what_layer}
 

@@ -7,14 +7,14 @@ use Rattle.kt_law.specs.declared.operators.BinOp.TheVariants as O
 use Rattle.kt_law.specs.declared.places.Place.{Place}
 use Rattle.kt_print.proofs.Forms.{printed_bin, printed_elem, printed_num, printed_var}
 use Rattle.kt_prog.specs.declared.programs.Expr.{Expr, Num, Var, Elem, Bin, fold-roll-Expr}
-use Rattle.kt_prog.specs.declared.programs.Expr.TheVariants.{rolls-Num, rolls-Var, rolls-Elem, rolls-Bin}
+use Rattle.kt_prog.specs.declared.programs.Expr.TheVariants.{rolls-Var, rolls-Elem, rolls-Bin}
 use Rattle.kt_prog.specs.declared.programs.Expr.TheOpen as E
 use Rattle.kt_text.specs.declared.tokens.TokenKind.TheVariants as K
 use Rattle.kt_text.specs.Gaps.{BeginsNoGap}
 use Rattle.kt_text.specs.Lexemes.{lexeme_of}
 use Rattle.kt_print.specs.declared.printing.operators.Level.{Level}
 use Rattle.kt_print.specs.declared.printing.operators.Level.TheVariants.{Comparison, Sum, Product, Atom}
-use Rattle.kt_print.specs.CanonicalExpressions.{Printed, applied_text, expr_text, left_grouped, level_of, operand_text, print_layer, printed, right_grouped, sign_of}
+use Rattle.kt_print.specs.CanonicalExpressions.{Printed, applied_text, expr_text, left_grouped, level_of, operand_text, printed, right_grouped, sign_of}
 use Rattle.kt_tokens.specs.declared.tokens.Mark.{Mark}
 use Rattle.kt_tokens.specs.declared.tokens.Mark.TheVariants as T
 use Rattle.kt_tokens.specs.declared.tokens.Symbol.{Symbol}

@@ -12,7 +12,7 @@ use Rattle.kt_prog.specs.declared.programs.What.TheVariants as W
 use Rattle.kt_prog.specs.declared.programs.What.TheOpen as F
 use Rattle.kt_print.proofs.Forms.{fold_text, for_text, fork_text, if_text, let_text, set_text, stmt_text, store_text}
 use Rattle.kt_print.specs.CanonicalExpressions.{expr_text}
-use Rattle.kt_print.specs.CanonicalStatements.{StmtText, stmt_layer as text_layer, argument_text, arguments_text, block_text, element_text, else_text, forked_text, span_text, text_of_stmt, text_of_what, what_text}
+use Rattle.kt_print.specs.CanonicalStatements.{argument_text, arguments_text, block_text, forked_text, text_of_stmt, text_of_what}
 use Rattle.kt_print.specs.CanonicalWords.{blanks, line, op_word as op_text}
 use Rattle.kt_tokens.specs.declared.tokens.Mark.TheVariants as T
 use Rattle.kt_tokens.specs.declared.tokens.Tok.{Tok}

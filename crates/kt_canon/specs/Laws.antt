@@ -1,5 +1,5 @@
 -- Statements of the laws of the canonical text.
-use Rattle.std.specs.Prelude.{◌≡◌, ℕ, ◌-◌, List, ◌++◌, length}
+use Rattle.std.specs.Prelude.{ℕ, ◌-◌, List, ◌++◌, length}
 use Rattle.kt_prog.specs.declared.programs.Program.{Program}
 use Rattle.kt_print.specs.CanonicalText.{canonical_text}
 use Rattle.kt_read.specs.Jobs.{IsJob}
