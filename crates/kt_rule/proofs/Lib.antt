@@ -1,0 +1,6 @@
+pub mod Puts
+pub mod Cores
+pub mod Sums
+pub mod Shelf
+pub mod Words
+pub mod Moves

@@ -1,0 +1,12 @@
+pub mod Paths
+pub mod Lists
+pub mod Weights
+pub mod Lies
+pub mod Records
+pub mod Views
+pub mod Facts
+pub mod Requests
+pub mod Rule
+pub mod Steps
+pub mod Close
+pub mod Shown

@@ -1,0 +1,13 @@
+pub mod Weights
+pub mod Listed
+pub mod Steps
+pub mod Asides
+pub mod Claiming
+pub mod Looks
+pub mod Fresh
+pub mod Drawing
+pub mod Seats
+pub mod Showing
+pub mod Closing
+pub mod Entering
+pub mod Telling

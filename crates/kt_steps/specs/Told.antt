@@ -1,0 +1,87 @@
+-- What the steps of the calls tell, in words that name no seat's lists but those of its view.
+use Rattle.std.specs.Prelude.{◌≡◌, ◌≢◌, ◌<◌, ◌≤◌, ◌*◌, ◌==◌, ℕ, List, [], ◌∷◌, MatchBool, Option, Some}
+use mathlib.Core.Option.{some}
+use lib.ListN.{get_elem?}
+use Rattle.atomic_table.specs.Table.{Step, Me}
+use Rattle.kt_law.specs.Acts.{Act, Deed}
+use Rattle.kt_law.specs.declared.stands.Stand.{Stand}
+use Rattle.kt_law.specs.declared.stands.Stand.TheVariants as S
+use Rattle.kt_order.specs.Body.{Do}
+use Rattle.kt_order.specs.Machine.{Code}
+use Rattle.kt_order.specs.Rest.{left}
+use Rattle.kt_prog.specs.Reference.{machine_of}
+use Rattle.kt_prog.specs.Store.{place_of}
+use Rattle.kt_words.specs.declared.layouts.TheConstants.{RECORDS}
+use Rattle.kt_words.specs.declared.layouts.Layout.{Layout}
+use Rattle.kt_rule.specs.declared.views.Setup.{Setup}
+use Rattle.kt_rule.specs.declared.views.Spot.{Spot}
+use Rattle.kt_rule.specs.declared.views.Execution.{Execution}
+use Rattle.kt_rule.specs.declared.views.Promise.{Promise}
+use Rattle.kt_rule.specs.declared.views.View.{View}
+use Rattle.kt_rule.specs.Records.{layout_of}
+use Rattle.kt_rule.specs.Facts.{task_in}
+use Rattle.kt_rule.specs.Rule.{Slots}
+use Rattle.kt_rule.specs.Steps.{Tells, state_place, state_word, IsState, ClaimsOwn, starts_own, ends, does_one, Stands}
+
+-- the view of a seat that stands for somebody, in a run with this layout, of this worker
+pub record IsLiveOf (l : Layout) (worker : ℕ) (v : View) : Type 0 where
+  pub setup : Setup
+  pub told : v.setup ≡ Some setup
+  pub layout : layout_of setup ≡ l
+  pub live : 0 < v.parts
+  pub own : worker ≡ v.worker
+
+-- a record of the seat's own region stands at the word
+abbrev pub IsOwnAt : Step Slots → View → Spot → Type 0
+IsOwnAt st v m = (j : Setup) × (v.setup ≡ Some j) × ((a : ℕ) × (get_elem? v.region.spots a ≡ some m)) × (st.word ≡ state_place (layout_of j) m.berth.at)
+
+-- whichever it is, its task's state was found
+abbrev pub ShowsOwn : Step Slots → View → ℕ → View → Type 0
+ShowsOwn st v n w = ((m : Spot) → IsOwnAt st v m → (b : Stand) × IsState m.berth b × (b ≢ S.Empty) × (n ≡ state_word m.berth b)) × (w ≡ v)
+
+-- and it was claimed, or another state was found
+abbrev pub ClaimsOwnAt : Step Slots → View → ℕ → View → Type 0
+ClaimsOwnAt st v n w = (m : Spot) → IsOwnAt st v m → ClaimsOwn m st v n w
+
+-- the state of the first promised task was found
+abbrev pub ShowsPromised : Step Slots → View → ℕ → View → Type 0
+ShowsPromised st v n w = ((m : Promise) (rest : List Promise) → v.tasks.promised ≡ m ∷ rest
+    → (b : Stand) × IsState m.spot.berth b × (b ≢ S.Empty) × (n ≡ state_word m.spot.berth b)) × (w ≡ v)
+
+-- it was begun
+abbrev pub StartsOwnAt : Step Slots → View → ℕ → View → Type 0
+StartsOwnAt st v n w = (m : Promise) (rest : List Promise) → v.tasks.promised ≡ m ∷ rest → w ≡ starts_own v m.spot rest
+
+-- the state of the running body's task was found
+abbrev pub ShowsRunning : Step Slots → View → ℕ → View → Type 0
+ShowsRunning st v n w = ((e : Execution) (rest : List Execution) → v.tasks.running ≡ e ∷ rest
+    → (b : Stand) × IsState e.spot.berth b × (b ≢ S.Empty) × (n ≡ state_word e.spot.berth b)) × (w ≡ v)
+
+-- it was finished
+abbrev pub EndsAt : Step Slots → View → ℕ → View → Type 0
+EndsAt st v n w = (e : Execution) (rest : List Execution) → v.tasks.running ≡ e ∷ rest → w ≡ ends v e rest
+
+-- the running body did its next operation, an act, where this number was found
+abbrev pub DidNext : View → ℕ → View → Type 0
+DidNext v n w = (j : Setup) → v.setup ≡ Some j → (e : Execution) (rest : List Execution) → v.tasks.running ≡ e ∷ rest
+    → (d : Act) (k : ℕ → Code (machine_of j.program)) → left (machine_of j.program) (task_in j e) ≡ Do d k → w ≡ does_one v d n e rest
+
+abbrev pub DoesNext : Step Slots → View → ℕ → View → Type 0
+DoesNext st v n w = DidNext v n w
+
+-- whichever record stands at the word was looked at
+abbrev pub StandsAt : Step Slots → View → ℕ → View → Type 0
+StandsAt st v n w = (j : Setup) → v.setup ≡ Some j → (a : ℕ) → a < RECORDS * j.workers → st.word ≡ state_place (layout_of j) a → Stands a st v n w
+
+-- this deed on the element with this number is the next operation of the running body
+pub record IsDueOn (v : View) (element : ℕ) (deed : Deed) : Type 0 where
+  pub setup : Setup
+  pub told : v.setup ≡ Some setup
+  pub head : Execution
+  pub rest : List Execution
+  pub runs : v.tasks.running ≡ head ∷ rest
+  pub act : Act
+  pub does : act.deed ≡ deed
+  pub place : place_of setup.program.families act ≡ element
+  pub more : ℕ → Code (machine_of setup.program)
+  pub next : left (machine_of setup.program) (task_in setup head) ≡ Do act more
