@@ -17,9 +17,9 @@ use Rattle.kt_prog.specs.declared.scope.Bound.TheVariants.{Number}
 use Rattle.kt_prog.specs.declared.scope.Local.{Local}
 use Rattle.kt_body.specs.Scenes.{IsSmall, IsSmallIn, AllSmall, named, renamed}
 
-pub small_snoc : (ls : List Local) (name : List ℕ) (n : ℕ) → AllSmall ls → AllSmall (ls ++ record { name = name; bound = Number n } ∷ [])
-small_snoc [] name n h = (tt, tt)
-small_snoc (l ∷ ls) name n (a, b) = (a, small_snoc ls name n b)
+pub small_snoc : (ls : List Local) (l : Local) → AllSmall ls → IsSmall l.bound → AllSmall (ls ++ l ∷ [])
+small_snoc [] l h k = (k, tt)
+small_snoc (x ∷ ls) l (a, b) k = (a, small_snoc ls l b k)
 
 pub small_take : (n : ℕ) (ls : List Local) → AllSmall ls → AllSmall (take n ls)
 small_take zero ls h = tt

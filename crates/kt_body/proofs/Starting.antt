@@ -3,7 +3,7 @@ use Rattle.std.proofs.Common.{◌≡◌, ◌≢◌, ◌≤◌, ◌<◌, ℕ, zer
 use Rattle.std.proofs.lemmas.Bool.Decides.{nat_tests}
 use Rattle.std.proofs.lemmas.List.{length-append}
 use Rattle.kt_law.specs.declared.accesses.Access.{Access}
-use Rattle.kt_law.specs.declared.limits.TheConstants.{DEFINITIONS, OBJECTS}
+use Rattle.kt_law.specs.declared.limits.TheConstants.{DEFINITIONS, OBJECTS, STEPS}
 use Rattle.kt_order.specs.Body.{Stop}
 use Rattle.kt_prog.specs.Accepted.{IsAccepted}
 use Rattle.kt_prog.specs.Bodies.{call_body, index_body, index_in, job_body, main_body, script_of, script_with, site_of, statements, task_at, task_body, task_or_loop, with_index}
@@ -27,7 +27,6 @@ use Rattle.kt_prog.specs.declared.scope.Local.{Local}
 use Rattle.kt_prog.proofs.Forms.{task_there, task_not_there}
 use Rattle.kt_prog.proofs.Plain.{few_objects}
 use Rattle.kt_body.specs.Moves.{Ran, RanTo}
-use Rattle.kt_body.specs.Scenes.{AllSmall, IsSmall}
 use Rattle.kt_body.specs.Starts.{IsTask, StartsLow, given_body}
 use Rattle.kt_body.specs.declared.ops.Early.{Early}
 use Rattle.kt_body.proofs.Astray.{astray_is}
@@ -35,13 +34,6 @@ use Rattle.kt_body.proofs.Steps.{ran_err, ran_give, ran_then}
 
 pub grown : (ls after : List Local) (l : Local) (n : ℕ) → after ≡ ls ++ l ∷ [] → length ls ≤ n → length after ≤ n + 1
 grown ls after l n e h = rw (e, length-append ls (l ∷ [])) (omega arith)
-
-small_grown : (ls : List Local) (l : Local) → AllSmall ls → IsSmall l.bound → AllSmall (ls ++ l ∷ [])
-small_grown [] l h k = (k, tt)
-small_grown (x ∷ ls) l (a, b) k = (a, small_grown ls l b k)
-
-pub small_after : (ls after : List Local) (l : Local) → after ≡ ls ++ l ∷ [] → AllSmall ls → IsSmall l.bound → AllSmall after
-small_after ls after l e h k = rw e (small_grown ls l h k)
 
 pub each_low : (xs : List Access) (j : ℕ) (d : Access) → EachOf StartsLow xs → j < length xs → (get_or xs j d).lo ≤ OBJECTS
 each_low [] j d h k = absurd (omega arith)
@@ -112,6 +104,10 @@ module _ (p : Program) (call : CallTree) where
 
   pub end_is : is_loop_at p call.task ≡ false → end_of p (Whole call) ≡ O.End ∷ []
   end_is h = rw h refl
+
+-- a body that starts has all its steps
+pub started : (w : State) → w.steps ≡ STEPS → record { locals = w.locals; steps = STEPS } ≡ w
+started w e = rw (← e) refl
 
 module _ (p : Program) (call : CallTree) (i : ℕ) where
   pub index_script : script_of p (Index call i) ≡ index_body (λ w. w) p call i (task_at p.tasks (call.task - 1)) (λ z. Stop None)

@@ -11,8 +11,7 @@ use Rattle.kt_prog.specs.declared.programs.Param.{Param}
 use Rattle.kt_prog.specs.declared.programs.Program.{Program}
 use Rattle.kt_prog.specs.declared.programs.Task.{Task}
 use Rattle.kt_prog.specs.declared.scope.Local.{Local}
-use Rattle.kt_body.specs.Scenes.{AllSmall}
-use Rattle.kt_body.specs.declared.start.Start.{Start}
+use Rattle.kt_body.specs.declared.start.Used.{Used}
 
 -- a call of main or of a task, which is no loop's and no kernel's
 pub record IsTask (p : Program) (call : CallTree) : Type 0 where
@@ -23,15 +22,14 @@ abbrev pub StartsLow : Access → Type 0
 StartsLow a = a.lo ≤ OBJECTS
 
 -- each local stands for an int or an access of a call, but for one that stands for an index
-pub record IsPart (s : Start) (ints : List ℕ) (accesses : List Access) : Type 0 where
-  pub counted : length s.locals.items ≤ 1 + s.ints + s.accesses
-  pub ints_there : s.ints ≤ length ints
-  pub accesses_there : s.accesses ≤ length accesses
-  pub small : AllSmall s.locals.items
+pub record IsPart (locals : List Local) (used : Used) (ints : List ℕ) (accesses : List Access) : Type 0 where
+  pub counted : length locals ≤ 1 + used.ints + used.accesses
+  pub ints_there : used.ints ≤ length ints
+  pub accesses_there : used.accesses ≤ length accesses
 
 -- all locals, where these parameters are still to be given what they take
-abbrev pub whole_start : Start → List Param → List ℕ → List Access → List Local
-whole_start s params ints accesses = s.locals.items ++ given params (drop s.ints ints) (drop s.accesses accesses)
+abbrev pub whole_start : List Local → Used → List Param → List ℕ → List Access → List Local
+whole_start locals used params ints accesses = locals ++ given params (drop used.ints ints) (drop used.accesses accesses)
 
 -- the statements of a task or an index, where the locals begin with these and go on with the parameters
 abbrev pub given_body : Program → CallTree → List Local → Task → Step (Unit {0})

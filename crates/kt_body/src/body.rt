@@ -6,34 +6,29 @@ ghost use Rattle.kt_prog.specs.Fits.{Fits};
 ghost use Rattle.std.specs.Prelude.{Some};
 ghost use Rattle.kt_body.specs.Endings.{Begins, EndsSo};
 ghost use Rattle.kt_body.specs.Moves.{Can, Ran};
-ghost use Rattle.kt_body.specs.Scenes.{AllSmall, site_in};
+ghost use Rattle.kt_law.specs.declared.limits.TheConstants.{STEPS};
+ghost use Rattle.kt_body.specs.Scenes.{site_in};
 ghost use Rattle.kt_body.specs.Starts.{IsTask, given_body};
 
 use crate::exec::exec_all;
 use crate::ops::{Early, Ended, Ops, Went};
 use crate::scene::Scene;
-use crate::start::given_locals;
+use crate::start::name_params;
 use crate::walk::Walk;
 use crate::zero::zero_each;
-use arrayvec::ArrayVec;
-use kt_law::STEPS;
-use kt_prog::{Call, Local, NAMES, Program, Stmt, Task};
+use kt_prog::{Call, Program, Stmt, Task};
 
-fn run_statements<O: Ops>(
+fn run_statements<'a, O: Ops>(
     scene: &Scene,
-    locals: ArrayVec<Local, NAMES>,
-    stmts: &[Stmt],
+    walk: &mut Walk<'a>,
+    stmts: &'a [Stmt],
     ops: &mut O,
 ) -> Result<(), Early>
-    requires can { Can O.at O.goes O.halted scene.now.program.now ops.old (statements (λ w. w) (site_in scene.now) locals.items stmts.now) }
-    requires small { AllSmall locals.items }
-    ensures { Ran O.at O.goes O.halted ops.old (statements (λ w. w) (site_in scene.now) locals.items stmts.now) ops.new result }
+    requires can { Can O.at O.goes O.halted scene.now.program.now ops.old (statements (λ w. w) (site_in scene.now) walk.old.locals stmts.now) }
+    requires steps { walk.old.steps ≡ STEPS }
+    ensures { Ran O.at O.goes O.halted ops.old (statements (λ w. w) (site_in scene.now) walk.old.locals stmts.now) ops.new result }
 {
-    let mut walk = Walk {
-        locals,
-        steps: STEPS,
-    };
-    exec_all(scene, &mut walk, stmts, ops)
+    exec_all(scene, walk, stmts, ops)
 }
 
 fn run_main<O: Ops>(program: &Program, ops: &mut O) -> Result<(), Early>
@@ -49,36 +44,32 @@ fn run_main<O: Ops>(program: &Program, ops: &mut O) -> Result<(), Early>
         in_main: true,
         depth: 0,
     };
-    run_statements(&scene, ArrayVec::new(), mains[0].body.as_slice(), ops)
+    let mut walk = Walk::new();
+    run_statements(&scene, &mut walk, mains[0].body.as_slice(), ops)
 }
 
-/// The statements of a task or an index, where the locals begin with these and go on with the parameters.
-pub fn run_given<O: Ops>(
+/// The statements of a task or an index, where the names begin with these and go on with the parameters.
+pub fn run_given<'a, O: Ops>(
     program: &Program,
     call: &Call,
-    first: ArrayVec<Local, NAMES>,
-    task: &Task,
+    walk: &mut Walk<'a>,
+    task: &'a Task,
     ops: &mut O,
 ) -> Result<(), Early>
-    requires can { Can O.at O.goes O.halted program.now ops.old (given_body program.now call.now first.items task.now) }
+    requires can { Can O.at O.goes O.halted program.now ops.old (given_body program.now call.now walk.old.locals task.now) }
     requires fits { Fits program.now call.now }
-    requires few { length first.items ≤ 1 }
-    requires known { AllSmall first.items }
-    ensures { Ran O.at O.goes O.halted ops.old (given_body program.now call.now first.items task.now) ops.new result }
+    requires few { length walk.old.locals ≤ 1 }
+    requires steps { walk.old.steps ≡ STEPS }
+    ensures { Ran O.at O.goes O.halted ops.old (given_body program.now call.now walk.old.locals task.now) ops.new result }
 {
     let scene = Scene {
         program,
         in_main: false,
         depth: call.depth,
     };
-    let params = task.params.as_slice();
-    let locals = given_locals(
-        first,
-        params,
-        call.ints.as_slice(),
-        call.accesses.as_slice(),
-    );
-    run_statements(&scene, locals, task.body.as_slice(), ops)
+    let (ints, accesses) = (call.ints.as_slice(), call.accesses.as_slice());
+    name_params(walk, task.params.as_slice(), ints, accesses);
+    run_statements(&scene, walk, task.body.as_slice(), ops)
 }
 
 fn run_task<O: Ops>(program: &Program, call: &Call, task: &Task, ops: &mut O) -> Result<(), Early>
@@ -86,7 +77,8 @@ fn run_task<O: Ops>(program: &Program, call: &Call, task: &Task, ops: &mut O) ->
     requires fits { Fits program.now call.now }
     ensures { Ran O.at O.goes O.halted ops.old (task_body (λ w. w) program.now call.now (Some task.now)) ops.new result }
 {
-    run_given(program, call, ArrayVec::new(), task, ops)
+    let mut walk = Walk::new();
+    run_given(program, call, &mut walk, task, ops)
 }
 
 fn run_call<O: Ops>(program: &Program, call: &Call, ops: &mut O) -> Result<(), Early>

@@ -13,11 +13,11 @@ use crate::walk::Walk;
 use crate::writes::{Write, write_element};
 use kt_prog::{Expr, Name, Stmt, What};
 
-fn bind<O: Ops>(
+fn bind<'a, O: Ops>(
     scene: &Scene,
-    walk: &mut Walk,
+    walk: &mut Walk<'a>,
     line: u32,
-    name: &Name,
+    name: &'a Name,
     e: &Expr,
     ops: &mut O,
 ) -> Result<(), Early>
@@ -66,10 +66,10 @@ fn write<O: Ops>(
 
 /// The statements of a block, one after another.
 #[cycle(exec)]
-pub fn exec_all<O: Ops>(
+pub fn exec_all<'a, O: Ops>(
     scene: &Scene,
-    walk: &mut Walk,
-    stmts: &[Stmt],
+    walk: &mut Walk<'a>,
+    stmts: &'a [Stmt],
     ops: &mut O,
 ) -> Result<(), Early>
     requires { Can O.at O.goes O.halted scene.now.program.now ops.old (block (map (stmt_of (λ w. w)) stmts.now) (site_in scene.now) walk.old) }
@@ -82,7 +82,12 @@ pub fn exec_all<O: Ops>(
 }
 
 #[cycle(exec)]
-fn exec<O: Ops>(scene: &Scene, walk: &mut Walk, stmt: &Stmt, ops: &mut O) -> Result<(), Early>
+fn exec<'a, O: Ops>(
+    scene: &Scene,
+    walk: &mut Walk<'a>,
+    stmt: &'a Stmt,
+    ops: &mut O,
+) -> Result<(), Early>
     requires { Can O.at O.goes O.halted scene.now.program.now ops.old (stmt_of (λ w. w) stmt.now (site_in scene.now) walk.old) }
     ensures { RanTo O.at O.goes O.halted ops.old (stmt_of (λ w. w) stmt.now (site_in scene.now) walk.old) ops.new walk.new result }
 {

@@ -8,7 +8,8 @@ ghost use Rattle.kt_body.specs.Moves.{Can, Ran};
 
 use crate::body::run_given;
 use crate::ops::{Early, Ended, Ops};
-use crate::start::index_local;
+use crate::start::name_index;
+use crate::walk::Walk;
 use kt_prog::{Call, Program, Task};
 
 fn run_index_of<O: Ops>(
@@ -22,8 +23,9 @@ fn run_index_of<O: Ops>(
     requires fits { Fits program.now call.now }
     ensures { Ran O.at O.goes O.halted ops.old (index_body (λ w. w) program.now call.now index (Some task.now)) ops.new result }
 {
-    let first = index_local(&task.index, index);
-    run_given(program, call, first, task, ops)
+    let mut walk = Walk::new();
+    name_index(&mut walk, &task.index, index);
+    run_given(program, call, &mut walk, task, ops)
 }
 
 fn run_at<O: Ops>(program: &Program, call: &Call, index: u32, ops: &mut O) -> Result<(), Early>
