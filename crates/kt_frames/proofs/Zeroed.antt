@@ -11,7 +11,7 @@ use Rattle.kt_order.specs.Sequential.{Alone, alone}
 use Rattle.kt_prog.specs.Bodies.{call_body, index_in, indexes, script_of, script_with, task_at, task_or_loop}
 use Rattle.kt_prog.specs.Calls.{CallTree, Whole, Index}
 use Rattle.kt_prog.specs.Objects.{width_of}
-use Rattle.kt_prog.specs.Operations.{is_loop_at, trace}
+use Rattle.kt_prog.specs.Operations.{is_loop_at, trace, zeroing}
 use Rattle.kt_prog.specs.Reference.{Placed, placed, machine_of}
 use Rattle.kt_prog.specs.Script.{Script, Step, ◌>>=◌, fork, give, perform}
 use Rattle.kt_prog.specs.Zeroing.{zero_access, zero_all, zero_elements, zero_objects}
@@ -20,7 +20,6 @@ use Rattle.kt_prog.specs.declared.programs.Program.{Program}
 use Rattle.kt_prog.specs.declared.programs.Task.{Task}
 use Rattle.kt_prog.specs.declared.runs.Operation.{Operation}
 use Rattle.kt_prog.specs.declared.runs.Operation.TheVariants as O
-use Rattle.kt_prog.specs.Operations.{zeroing}
 use Rattle.kt_store.specs.Stores.{StoreState}
 use Rattle.kt_frames.specs.Loops.{placed_indexes}
 use Rattle.kt_frames.specs.Owned.{Moves}

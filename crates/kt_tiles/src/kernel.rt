@@ -10,7 +10,7 @@ ghost use Rattle.kt_body.specs.Moves.{Can, Ran};
 
 use crate::lines::{Line, Sum, run_scan, run_stencil};
 use crate::products::{Product, Ring, run_product};
-use crate::tiles::{Buffers, Tiles};
+use crate::tiles::{Buffers, TILE, Tiles};
 use kt_body::{Early, Ended, Ops, Went, zero_each};
 use kt_law::{Access, DEFINITIONS};
 use kt_prog::{Call, Program};
@@ -75,14 +75,18 @@ fn run_numbered<O: Ops>(
     requires { Can O.at O.goes O.halted program.now ops.old (kernel_body (width_of program.now.families) kernel ints.now accesses.now) }
     ensures { Ran O.at O.goes O.halted ops.old (kernel_body (width_of program.now.families) kernel ints.now accesses.now) ops.new result }
 {
+    let (a, rest) = buffers.numbers.split_at_mut(TILE);
+    let (b, c) = rest.split_at_mut(TILE);
     if kernel == 0 {
-        run_product(program, Ring::Wrapping, &product_of(ints, accesses), ops, buffers)
+        let s = product_of(ints, accesses);
+        run_product(program, Ring::Wrapping, &s, a, b, c, ops)
     } else if kernel == 1 {
-        run_product(program, Ring::Tropical, &product_of(ints, accesses), ops, buffers)
+        let s = product_of(ints, accesses);
+        run_product(program, Ring::Tropical, &s, a, b, c, ops)
     } else if kernel == 2 {
-        run_stencil(program, &line_of(ints, accesses), ops, buffers)
+        run_stencil(program, &line_of(ints, accesses), a, c, ops)
     } else {
-        run_scan(program, &sum_of(ints, accesses), ops, buffers)
+        run_scan(program, &sum_of(ints, accesses), a, ops)
     }
 }
 

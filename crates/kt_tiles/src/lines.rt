@@ -8,7 +8,6 @@ ghost use Rattle.kt_body.specs.Moves.{Can, Ran};
 
 use crate::products::has;
 use crate::rows::{load_row, write_row};
-use crate::tiles::Buffers;
 use kt_body::{Early, Got, Ops, Write, width_at};
 use kt_kernels::{scan, stencil};
 use kt_law::{F, LENGTH};
@@ -83,32 +82,38 @@ fn run_line<O: Ops>(
 fn run_line_in<O: Ops>(
     program: &Program,
     s: &Line,
+    row: &mut [u64],
+    out: &mut [u64],
     ops: &mut O,
-    buffers: &mut Buffers,
 ) -> Result<(), Early>
     requires can { Can O.at O.goes O.halted program.now ops.old (line_loaded s.now (s.now.n - 1)) }
     requires some { s.now.n ≢ 0 }
     requires few { s.now.n ≤ WIDTH }
+    requires row_room { WIDTH ≤ length row.old }
+    requires out_room { WIDTH ≤ length out.old }
     ensures { Ran O.at O.goes O.halted ops.old (line_loaded s.now (s.now.n - 1)) ops.new result }
 {
     let n = s.n as usize;
-    run_line(program, s, &mut buffers.a[..n], &mut buffers.c[..n], ops)
+    run_line(program, s, &mut row[..n], &mut out[..n], ops)
 }
 
 fn run_fitting_line<O: Ops>(
     program: &Program,
     s: &Line,
+    row: &mut [u64],
+    out: &mut [u64],
     ops: &mut O,
-    buffers: &mut Buffers,
 ) -> Result<(), Early>
     requires can { Can O.at O.goes O.halted program.now ops.old (smooth (width_of program.now.families) s.now.n s.now.left s.now.row s.now.right s.now.out) }
     requires few { s.now.n ≤ WIDTH }
+    requires row_room { WIDTH ≤ length row.old }
+    requires out_room { WIDTH ≤ length out.old }
     ensures { Ran O.at O.goes O.halted ops.old (smooth (width_of program.now.families) s.now.n s.now.left s.now.row s.now.right s.now.out) ops.new result }
 {
     if s.n == 0 {
         Ok(())
     } else {
-        run_line_in(program, s, ops, buffers)
+        run_line_in(program, s, row, out, ops)
     }
 }
 
@@ -116,14 +121,17 @@ fn run_fitting_line<O: Ops>(
 pub fn run_stencil<O: Ops>(
     program: &Program,
     s: &Line,
+    row: &mut [u64],
+    out: &mut [u64],
     ops: &mut O,
-    buffers: &mut Buffers,
 ) -> Result<(), Early>
-    requires { Can O.at O.goes O.halted program.now ops.old (line_in (width_of program.now.families) s.now) }
+    requires row_room { WIDTH ≤ length row.old }
+    requires out_room { WIDTH ≤ length out.old }
+    requires can { Can O.at O.goes O.halted program.now ops.old (line_in (width_of program.now.families) s.now) }
     ensures { Ran O.at O.goes O.halted ops.old (line_in (width_of program.now.families) s.now) ops.new result }
 {
     if is_line_fitting(program, s) {
-        run_fitting_line(program, s, ops, buffers)
+        run_fitting_line(program, s, row, out, ops)
     } else {
         Err(Early::Fault(F::F2, 0))
     }
@@ -153,30 +161,32 @@ fn run_sum<O: Ops>(
 fn run_sum_in<O: Ops>(
     program: &Program,
     s: &Sum,
+    row: &mut [u64],
     ops: &mut O,
-    buffers: &mut Buffers,
 ) -> Result<(), Early>
     requires can { Can O.at O.goes O.halted program.now ops.old (sum_loaded s.now) }
     requires few { s.now.n ≤ WIDTH }
     requires first { s.now.first ≤ WIDTH }
+    requires room { WIDTH ≤ length row.old }
     ensures { Ran O.at O.goes O.halted ops.old (sum_loaded s.now) ops.new result }
 {
     let n = s.n as usize;
-    run_sum(program, s, &mut buffers.a[..n], ops)
+    run_sum(program, s, &mut row[..n], ops)
 }
 
 /// The test, the loads of the start and the row, and the stores of the sums.
 pub fn run_scan<O: Ops>(
     program: &Program,
     s: &Sum,
+    row: &mut [u64],
     ops: &mut O,
-    buffers: &mut Buffers,
 ) -> Result<(), Early>
-    requires { Can O.at O.goes O.halted program.now ops.old (sum_in (width_of program.now.families) s.now) }
+    requires room { WIDTH ≤ length row.old }
+    requires can { Can O.at O.goes O.halted program.now ops.old (sum_in (width_of program.now.families) s.now) }
     ensures { Ran O.at O.goes O.halted ops.old (sum_in (width_of program.now.families) s.now) ops.new result }
 {
     if is_sum_fitting(program, s) {
-        run_sum_in(program, s, ops, buffers)
+        run_sum_in(program, s, row, ops)
     } else {
         Err(Early::Fault(F::F2, 0))
     }

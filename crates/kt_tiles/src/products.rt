@@ -6,7 +6,6 @@ ghost use Rattle.kt_tiles.specs.Kernels.{fits_product, made_by, op_of, product_i
 ghost use Rattle.kt_body.specs.Moves.{Can, Ran};
 
 use crate::rows::{load_row, write_row};
-use crate::tiles::Buffers;
 use kt_body::{Early, Ops, Write, width_at};
 use kt_kernels::{minplus, mul};
 use kt_law::{F, LENGTH, Op};
@@ -112,8 +111,10 @@ fn run_tiled<O: Ops>(
     program: &Program,
     ring: Ring,
     s: &Product,
+    a: &mut [u64],
+    b: &mut [u64],
+    c: &mut [u64],
     ops: &mut O,
-    buffers: &mut Buffers,
 ) -> Result<(), Early>
     requires can { Can O.at O.goes O.halted program.now ops.old (product_loaded ring s.now) }
     requires rows { s.now.n ≤ LENGTH }
@@ -122,12 +123,15 @@ fn run_tiled<O: Ops>(
     requires a_few { s.now.n * s.now.p ≤ WIDTH }
     requires b_few { s.now.p * s.now.q ≤ WIDTH }
     requires c_few { s.now.n * s.now.q ≤ WIDTH }
+    requires a_room { WIDTH ≤ length a.old }
+    requires b_room { WIDTH ≤ length b.old }
+    requires c_room { WIDTH ≤ length c.old }
     ensures { Ran O.at O.goes O.halted ops.old (product_loaded ring s.now) ops.new result }
 {
-    let a = &mut buffers.a[..(s.n * s.p) as usize];
-    let b = &mut buffers.b[..(s.p * s.q) as usize];
-    let c = &mut buffers.c[..(s.n * s.q) as usize];
-    run_fitting(program, ring, s, a, b, c, ops)
+    let xs = &mut a[..(s.n * s.p) as usize];
+    let ys = &mut b[..(s.p * s.q) as usize];
+    let out = &mut c[..(s.n * s.q) as usize];
+    run_fitting(program, ring, s, xs, ys, out, ops)
 }
 
 /// The test, the loads of both tiles, and the folds of their product.
@@ -135,14 +139,19 @@ pub fn run_product<O: Ops>(
     program: &Program,
     ring: Ring,
     s: &Product,
+    a: &mut [u64],
+    b: &mut [u64],
+    c: &mut [u64],
     ops: &mut O,
-    buffers: &mut Buffers,
 ) -> Result<(), Early>
-    requires { Can O.at O.goes O.halted program.now ops.old (product_in (width_of program.now.families) ring s.now) }
+    requires can { Can O.at O.goes O.halted program.now ops.old (product_in (width_of program.now.families) ring s.now) }
+    requires a_room { WIDTH ≤ length a.old }
+    requires b_room { WIDTH ≤ length b.old }
+    requires c_room { WIDTH ≤ length c.old }
     ensures { Ran O.at O.goes O.halted ops.old (product_in (width_of program.now.families) ring s.now) ops.new result }
 {
     if is_fitting(program, s) {
-        run_tiled(program, ring, s, ops, buffers)
+        run_tiled(program, ring, s, a, b, c, ops)
     } else {
         Err(Early::Fault(F::F2, 0))
     }

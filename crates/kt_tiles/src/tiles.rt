@@ -6,12 +6,13 @@ use std::alloc::Global;
 /// Numbers of a tile: as many as an object has elements at most.
 pub const TILE: usize = WIDTH as usize;
 
-/// Two tiles that are loaded and one that is made of them.
+/// Numbers of two tiles that are loaded and of one that is made of them.
+pub const ROOM: usize = 3 * TILE;
+
+/// The three tiles, one behind another.
 #[derive(Drop)]
 pub struct Buffers {
-    pub a: [u64; TILE],
-    pub b: [u64; TILE],
-    pub c: [u64; TILE],
+    pub numbers: [u64; ROOM],
 }
 
 /// The buffers of all kernels of a run, made once.
@@ -23,14 +24,7 @@ pub struct Tiles {
 impl Tiles {
     /// Tiles with any numbers in them.
     pub fn new(alloc: Global) -> Result<Tiles, NoMemory> {
-        let buffers = Box::new(
-            alloc,
-            Buffers {
-                a: [0; TILE],
-                b: [0; TILE],
-                c: [0; TILE],
-            },
-        )?;
+        let buffers = Box::new(alloc, Buffers { numbers: [0; ROOM] })?;
         Ok(Tiles { buffers })
     }
 }
