@@ -2,3 +2,4 @@ pub mod JobReplies
 pub mod Endings
 pub mod OneAnswer
 pub mod FewWorkers
+pub mod FitSizes

@@ -4,6 +4,8 @@ use Rattle.kt_io.specs.Ending.{Said, Faults}
 use Rattle.kt_law.specs.declared.limits.TheConstants.{JOB}
 use Rattle.kt_law.specs.declared.places.Refusal.{Refusal}
 use Rattle.kt_text.specs.Words.{command_of}
+use Rattle.kt_gen.specs.Jobs.{job_text}
+use Rattle.kt_text.specs.declared.commands.Kind.{Kind}
 use Rattle.kt_text.specs.declared.commands.Command.{Command}
 use Rattle.kt_text.specs.declared.commands.Command.TheVariants as C
 use Rattle.kt_prog.specs.Accepted.{IsAccepted}
@@ -33,6 +35,10 @@ told exit line = record { exit = exit; text = line_of line }
 -- of what is not built yet
 abbrev pub not_built : Said Exit
 not_built = record { exit = E.NotBuilt; text = codes "not built\n" }
+
+-- the generated job
+abbrev pub generated : Kind → ℕ → ℕ → Said Exit
+generated kind size number = record { exit = E.Done; text = job_text kind size number }
 
 -- to `check`: the refusal, or the canonical text of the program
 pub data AnswersCheck (job : List ℕ) : Said Exit → Type 0 where
@@ -64,7 +70,7 @@ abbrev pub AnswersCommand : Option Command → List ℕ → Said Exit → Type 0
 AnswersCommand (Some C.Check) job reply = AnswersJob AnswersCheck job reply
 AnswersCommand (Some C.Seq) job reply = AnswersJob (AnswersRun (λ p. true)) job reply
 AnswersCommand (Some (C.Sim workers number)) job reply = AnswersJob (AnswersRun only_tasks) job reply
-AnswersCommand (Some (C.Gen kind size number)) job reply = reply ≡ not_built
+AnswersCommand (Some (C.Gen kind size number)) job reply = reply ≡ generated kind size number
 AnswersCommand (Some (C.Run workers)) job reply = reply ≡ told E.Usage L.Usage
 AnswersCommand (Some (C.Demo kind size number workers)) job reply = reply ≡ told E.Usage L.Usage
 AnswersCommand None job reply = reply ≡ told E.Usage L.Usage

@@ -33,8 +33,8 @@ pub enum Opened {
     Refused(Refusal),
 }
 
-/// The line that is written for a job, or for words, of which nothing is built.
-pub const NOT_BUILT: &[u8] = b"not built\n";
+/// The line that is written for a job of which not all is built.
+const NOT_BUILT: &[u8] = b"not built\n";
 
 /// The reply to a job.
 pub fn reply_to(alloc: Global, asked: Asked, job: &[u8]) -> Result<Reply, NoMemory>

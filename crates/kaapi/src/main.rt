@@ -1,4 +1,4 @@
-//! Answers a job on standard input: `kaapi check`, `kaapi seq`, `kaapi sim W NUMBER`.
+//! Answers a job on standard input: `kaapi check`, `kaapi seq`, `kaapi sim W NUMBER`. Writes a job: `kaapi gen KIND SIZE NUMBER`.
 #![tactic(auto)]
 
 mod asked;

@@ -130,6 +130,9 @@ const ROUND_TRIP: &str = "main { let v = (1+2)*3; if v { } else { v = 4; } } # c
 const CANONICAL: &str =
     "main {\n  let v = (1 + 2) * 3;\n  if v {\n  } else {\n    v = 4;\n  }\n}\ndata\n";
 
+const SCAN: &str =
+    "object A[1] of 16 input output;\nobject P of 1;\nloop sums(i; int t, int m, r Q, cw(add) R) {\n  for u in t + 1..m {\n    R[u] add= Q[i];\n  }\n}\nmain {\n  for t in 0..1 {\n    fork sums(16; t, 1, A[t], P);\n  }\n  for t in 0..1 {\n    fork k_scan(16, t, P, A[t]);\n  }\n}\ndata\n0 1 4 9 16 25 36 49 64 81 100 121 144 169 196 225\n";
+
 #[derive(Clone, Copy)]
 struct Case {
     words: &'static str,
@@ -166,7 +169,7 @@ fn ends(
     assert!(rt; pieces.0 > 0 && pieces.1 > 0);
     let bytes = case.job.as_bytes().to_vec(alloc)?;
     let mut source = MemSource::new(bytes, pieces.0, [fails.0].to_vec(alloc)?);
-    let mut sink = MemSink::new(alloc, 500, pieces.1, [fails.1].to_vec(alloc)?)?;
+    let mut sink = MemSink::new(alloc, 1_000, pieces.1, [fails.1].to_vec(alloc)?)?;
     let found = top_plain(alloc, &words_of(alloc, case.words)?, &mut source, &mut sink);
     assert!(rt; found == case.exit, "{}", case.job);
     assert!(rt; sink.written() == case.text.as_bytes(), "{}", case.job);
@@ -469,8 +472,19 @@ fn other_words_read_nothing(rt: HostRuntime) -> Result<(), Fail> {
         answers("Seq", "", Exit::Usage, "usage\n"),
         answers("sim 0 1", "", Exit::Usage, "usage\n"),
         answers("sim 9 1", "", Exit::Usage, "usage\n"),
+        answers("gen mul 0 1", "", Exit::Usage, "usage\n"),
         answers("gen mul 26 0", "", Exit::Usage, "usage\n"),
-        answers("gen scan 1 0", "", Exit::NotBuilt, "not built\n"),
+        answers("gen walks 13 0", "", Exit::Usage, "usage\n"),
+        answers("gen scan 1025 0", "", Exit::Usage, "usage\n"),
+        answers("gen MUL 1 0", "", Exit::Usage, "usage\n"),
+        answers(
+            "gen scan 1 000000000000000000000",
+            "",
+            Exit::Usage,
+            "usage\n",
+        ),
+        answers("gen scan 1 0", "", Exit::Done, SCAN),
+        answers("gen scan 1 00000000000000000000", "", Exit::Done, SCAN),
     ];
     for case in &cases {
         ends(&rt, rt.alloc(), case, (1, 10), (1, 0))?;

@@ -2,17 +2,19 @@
 ghost use Rattle.std.specs.Prelude.{◌≡◌, ◌≤◌, length, false};
 ghost use Rattle.kt_io.specs.Ending.{EndsWith, ForJob, Said, Sends, SendsOrLacks};
 ghost use Rattle.kt_io.specs.Over.{over};
+ghost use Rattle.kt_gen.specs.Jobs.{IsSize};
 ghost use Rattle.kt_text.specs.Words.{command_of, texts_of};
-ghost use Rattle.kaapi.specs.Answers.{Answers, AnswersAsked, AnswersJob, asks_job, faults, told};
+ghost use Rattle.kaapi.specs.Answers.{Answers, AnswersAsked, AnswersJob, asks_job, faults, generated, told};
 ghost use Rattle.kaapi.specs.declared.exits.Exit.{Exit};
 
 use crate::asked::{Asked, Choice, Way};
 use crate::exits::Exit;
-use crate::jobs::{NOT_BUILT, reply_to};
+use crate::jobs::reply_to;
+use kt_gen::job_bytes;
 use kt_io::{ReadError, Sink, Source, read_all, write_all};
 use kt_law::{JOB, NoMemory};
 use kt_print::{Line, line_bytes};
-use kt_text::{Command, Usage, read_words};
+use kt_text::{Command, Kind, Usage, read_words};
 use std::alloc::Global;
 
 /// Answers the job that the source gives, as the words ask. The answer is whole before the first byte of it is written.
@@ -38,7 +40,7 @@ pub fn top_plain<S: Source, K: Sink>(
             source,
             sink,
         ),
-        Ok(Command::Gen(..)) => send(sink, Exit::NotBuilt, NOT_BUILT),
+        Ok(Command::Gen(kind, size, number)) => send_generated(alloc, kind, size, number, sink),
         Ok(Command::Run(_)) => tell(alloc, Exit::Usage, &Line::Usage, sink),
         Ok(Command::Demo(..)) => tell(alloc, Exit::Usage, &Line::Usage, sink),
         Err(Usage) => tell(alloc, Exit::Usage, &Line::Usage, sink),
@@ -71,6 +73,18 @@ fn answer_job<K: Sink>(alloc: Global, asked: Asked, job: &[u8], sink: &mut K) ->
 {
     match reply_to(alloc, asked, job) {
         Ok(reply) => send(sink, reply.exit(), reply.text()),
+        Err(NoMemory) => Exit::NoMemory,
+    }
+}
+
+// Writes a generated job.
+fn send_generated<K: Sink>(alloc: Global, kind: Kind, size: u32, number: u64, sink: &mut K) -> Exit
+    requires { IsSize kind size }
+    ensures sent { SendsOrLacks faults (λ (reply : Said Exit). reply ≡ generated kind size number) (over K.written K.faults sink.old sink.new) result }
+    ensures later { K.faults sink.old ≤ K.faults sink.new }
+{
+    match job_bytes(alloc, kind, size, number) {
+        Ok(job) => send(sink, Exit::Done, &job),
         Err(NoMemory) => Exit::NoMemory,
     }
 }

@@ -183,7 +183,7 @@ module _ (p : Program) (ok : IsAccepted p) where
       let all : o.indexes - 0 ≡ o.indexes = omega arith in
       let tasks = o.frames.tasks - waiting o.frames in
       ap (λ (n : ℕ). answered_from p least tasks (o.indexes - n)
-          (let x = run_all p (placed_indexes (path_over o.frames.below) call call.length n) o.store.elements in joined (machine_of p) x (rest_of p o.frames x.store))) none
+      (let x = run_all p (placed_indexes (path_over o.frames.below) call call.length n) o.store.elements in joined (machine_of p) x (rest_of p o.frames x.store))) none
       ∙ ap (λ (n : ℕ). answered_from p least tasks n (rest_of p o.frames o.store.elements)) all
 
   -- a loop that was claimed

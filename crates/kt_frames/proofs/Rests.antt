@@ -8,11 +8,11 @@ use Rattle.std.proofs.lemmas.Grind.{flat_map-append}
 use Rattle.kt_law.specs.declared.limits.TheConstants.{DEPTH, INDEXES, TASKS}
 use Rattle.kt_order.specs.Machine.{Machine}
 use Rattle.kt_order.specs.Sequential.{Entry, Run, alone, each, joined, noted, still_at, whole, whole_within}
-use Rattle.kt_prog.specs.Calls.{CallTree, Whole, Index}
+use Rattle.kt_prog.specs.Calls.{CallTree, Whole, Index, index_of}
 use Rattle.kt_prog.specs.Script.{Fault}
 use Rattle.kt_prog.specs.Bodies.{script_of}
 use Rattle.kt_prog.specs.Fits.{Fits, is_main, is_call}
-use Rattle.kt_prog.specs.Entries.{tasks_of, indexes_of, faults_of, fault_in, index_of, task_in}
+use Rattle.kt_prog.specs.Entries.{tasks_of, indexes_of, faults_of, fault_in, task_in}
 use Rattle.kt_prog.specs.Outcome.{fault_or_rows}
 use Rattle.kt_prog.specs.Runs.{FaultRun}
 use Rattle.kt_prog.specs.Reference.{Placed, placed, machine_of}

@@ -19,7 +19,11 @@ use kt_prog::{Call, Program};
 fn object_of(accesses: &[Access], k: usize) -> u32
     ensures { result ≡ object_at accesses.now k }
 {
-    if k < accesses.len() { accesses[k].lo } else { 0 }
+    if k < accesses.len() {
+        accesses[k].lo
+    } else {
+        0
+    }
 }
 
 fn int_of(ints: &[u64], k: usize) -> u64
@@ -109,12 +113,7 @@ fn run_zeroed<O: Ops>(
 }
 
 /// The operations of the body of a kernel's call, its zeroing first, in order. What stood in the tiles before doesn't count.
-pub fn run_kernel<O: Ops>(
-    program: &Program,
-    call: &Call,
-    ops: &mut O,
-    tiles: &mut Tiles,
-) -> Ended
+pub fn run_kernel<O: Ops>(program: &Program, call: &Call, ops: &mut O, tiles: &mut Tiles) -> Ended
     requires begins { Begins O.at O.goes O.halted program.now (Whole call.now) ops.old }
     requires kernel { IsKernel call.now }
     ensures { EndsSo O.at O.goes O.halted program.now (Whole call.now) ops.old ops.new result }

@@ -137,12 +137,7 @@ pub fn run_stencil<O: Ops>(
     }
 }
 
-fn run_sum<O: Ops>(
-    program: &Program,
-    s: &Sum,
-    row: &mut [u64],
-    ops: &mut O,
-) -> Result<(), Early>
+fn run_sum<O: Ops>(program: &Program, s: &Sum, row: &mut [u64], ops: &mut O) -> Result<(), Early>
     requires can { Can O.at O.goes O.halted program.now ops.old (sum_loaded s.now) }
     requires shape { length row.old ≡ s.now.n }
     requires few { s.now.n ≤ WIDTH }
@@ -158,12 +153,7 @@ fn run_sum<O: Ops>(
     write_row(program, Write::Store, s.row, row, ops)
 }
 
-fn run_sum_in<O: Ops>(
-    program: &Program,
-    s: &Sum,
-    row: &mut [u64],
-    ops: &mut O,
-) -> Result<(), Early>
+fn run_sum_in<O: Ops>(program: &Program, s: &Sum, row: &mut [u64], ops: &mut O) -> Result<(), Early>
     requires can { Can O.at O.goes O.halted program.now ops.old (sum_loaded s.now) }
     requires few { s.now.n ≤ WIDTH }
     requires first { s.now.first ≤ WIDTH }

@@ -4,11 +4,12 @@ use Rattle.kt_io.specs.Ending.{Said}
 use Rattle.kt_print.specs.declared.lines.Line.TheVariants as L
 use Rattle.kt_text.specs.Words.{texts_of}
 use Rattle.kt_text.specs.declared.commands.Command.TheVariants as C
-use Rattle.kaapi.specs.Answers.{AnswersCommand, not_built, told}
+use Rattle.kaapi.specs.Answers.{AnswersCommand, generated, told}
 use Rattle.kt_io.specs.Ending.EndsWith.{answered}
 use Rattle.kaapi.specs.declared.exits.Exit.{Exit}
 use Rattle.kaapi.specs.declared.exits.Exit.TheVariants as E
 use Rattle.kaapi.proofs.FewWorkers.{few_workers}
+use Rattle.kaapi.proofs.FitSizes.{fit_size}
 use Rattle.kaapi.proofs.Endings.{ends, for_any_job, for_job_then, of_command}
 use Rattle.kaapi.proofs.top.top_plain.Goals as goal
 
@@ -32,10 +33,16 @@ returns-in-Ok-Sim-clause-answers g c =
     let same = sym (ap Some c.in-Ok-Sim.field-0-is) ∙ sym (ap result_ok c.in-Ok-Sim.is) ∙ c.read_words.ensures in
     for_job_then _ _ _ (λ job h. of_command (texts_of c.args.words.now) job _ _ _ (Some (C.Sim c.in-Ok-Sim.workers c.in-Ok-Sim.number)) same h) c.answer_source-in-Ok-Sim.ensures.answers
 
+pub send_generated-requires : goal.send_generated-requires
+send_generated-requires g c =
+    let same = sym (ap Some c.in-Ok-Gen.field-0-is) ∙ sym (ap result_ok c.in-Ok-Gen.is) ∙ c.read_words.ensures in
+    fit_size (texts_of c.args.words.now) c.in-Ok-Gen.kind c.in-Ok-Gen.size c.in-Ok-Gen.number (sym same)
+
 pub returns-in-Ok-Gen-clause-answers : goal.returns-in-Ok-Gen-clause-answers
 returns-in-Ok-Gen-clause-answers g c =
     let same = sym (ap Some c.in-Ok-Gen.field-0-is) ∙ sym (ap result_ok c.in-Ok-Gen.is) ∙ c.read_words.ensures in
-    for_any_job _ _ (λ job. of_command (texts_of c.args.words.now) job _ _ _ _ same (answered not_built refl c.send.ensures.sent))
+    for_any_job _ _ (λ job. of_command (texts_of c.args.words.now) job _ _ _ _ same
+    (ends (λ (reply : Said Exit). reply ≡ generated c.in-Ok-Gen.kind c.in-Ok-Gen.size c.in-Ok-Gen.number) _ _ _ _ (λ reply is. is) c.send_generated.ensures.sent))
 
 pub returns-in-Ok-Run-clause-answers : goal.returns-in-Ok-Run-clause-answers
 returns-in-Ok-Run-clause-answers g c =
