@@ -1,5 +1,5 @@
 -- The lines of numbers are read back as the numbers.
-use Rattle.std.proofs.Common.{◌≡◌, ◌≢◌, ◌≤◌, ◌<◌, ℕ, zero, suc, ◌+◌, ◌-◌, ◌*◌, ◌^◌, ◌/◌, ◌%◌, Bool, true, false, not, ◌&&◌, List, [], ◌∷◌, ◌++◌, length, take, drop, map, codes, Some, None, Ok, nat_eq, nat_lt, refl, ap, sym, subst, ◌∙◌, append_assoc, arith}
+use Rattle.std.proofs.Common.{◌≡◌, ◌≢◌, ◌≤◌, ◌<◌, ℕ, zero, suc, ◌+◌, ◌-◌, ◌*◌, ◌^◌, ◌/◌, ◌%◌, Bool, true, false, not, List, [], ◌∷◌, ◌++◌, length, take, drop, map, codes, Some, Ok, nat_eq, nat_lt, refl, ap, sym, subst, ◌∙◌, append_assoc, arith}
 use Rattle.std.specs.Prelude.{◌||◌, if◌then◌else◌}
 use Rattle.std.specs.Char.{is_ascii_digit}
 use Rattle.std.specs.Fmt.{decimal}
@@ -9,14 +9,14 @@ use Rattle.std.proofs.lemmas.List.{append-nil, drop-drop, length-append, length-
 use Rattle.std.proofs.Math.Nat.{mod-lt}
 use Rattle.std.proofs.Math.Seq.{drop-append_seam}
 use Rattle.kt_print.specs.Rows.{number_text}
-use Rattle.kt_text.specs.Bytes.{is_blank, is_item_byte, value_of}
+use Rattle.kt_text.specs.Bytes.{is_blank, is_item_byte}
 use Rattle.kt_text.specs.Data.{item_number_of, numbers}
 use Rattle.kt_text.proofs.ItemLists.{IsRead, is_read-more, is_read-none, numbers-all}
 use Rattle.kt_canon.proofs.Regrouped.{take_front}
 use Rattle.kt_canon.proofs.Spelled.{Writes, all_head, decimal_writes, prefix_all}
 use Rattle.kt_prog.specs.Objects.{inputs_of}
 use Rattle.kt_prog.specs.declared.programs.Program.{Program}
-use Rattle.kt_print.specs.CanonicalText.{canonical_text, family_text, main_text, task_text}
+use Rattle.kt_print.specs.CanonicalText.{family_text, main_text, task_text}
 use Rattle.kt_read.specs.Jobs.{IsJob}
 use Rattle.kt_text.specs.declared.commands.Kind.{Kind}
 use Rattle.kt_text.specs.declared.commands.Kind.TheVariants.{Mul, Walks, Stencil, Scan}

@@ -4,7 +4,7 @@ use Rattle.std.proofs.lemmas.List.{map-append, length-append}
 use Rattle.std.specs.List.{flat_map, range_with_len}
 use Rattle.kt_text.specs.declared.commands.Kind.{Kind}
 use Rattle.kt_text.specs.declared.commands.Kind.TheVariants.{Mul, Walks, Stencil, Scan}
-use Rattle.kt_gen.specs.Numbers.{drawn, element_of, lines_text, members_of, mul_rows, numbers_of, row_of, row_text, rows, rows_of, width_of}
+use Rattle.kt_gen.specs.Numbers.{drawn, element_of, lines_text, members_of, mul_rows, numbers_of, row_of, row_text, rows_of, width_of}
 
 range_more : (a n : ℕ) → range_with_len a (suc n) ≡ range_with_len a n ++ (a + n) ∷ []
 range_more a zero = rw (add-zero) refl

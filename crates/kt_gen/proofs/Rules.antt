@@ -1,5 +1,5 @@
 -- The generated programs break no rule.
-use Rattle.std.proofs.Common.{◌≡◌, ◌≤◌, ◌<◌, Bool, true, false, ℕ, zero, suc, ◌+◌, ◌*◌, List, [], ◌∷◌, ◌++◌, length, Option, Some, None, codes, map, nat_eq, nat_lt, refl, ap, sym, subst, ◌∙◌, arith}
+use Rattle.std.proofs.Common.{◌≡◌, ◌≤◌, true, false, ℕ, ◌+◌, ◌*◌, List, [], ◌∷◌, ◌++◌, Option, Some, None, codes, map, nat_eq, nat_lt, refl, ap, sym, ◌∙◌, arith}
 use Rattle.std.proofs.Math.Nat.{one-le-mul}
 use Rattle.std.proofs.lemmas.Bool.Decides.{nat_tests}
 use Rattle.std.proofs.lemmas.Nat.{mul-le}
@@ -14,14 +14,13 @@ use Rattle.kt_law.specs.declared.places.P.TheVariants.{P11}
 use Rattle.kt_law.specs.declared.places.Place.{Place}
 use Rattle.kt_prog.specs.Accepted.{IsAccepted, broken, main_scope, task_scope}
 use Rattle.kt_prog.specs.Declarations.{family_rules, too_large}
-use Rattle.kt_prog.specs.ForkRules.{argument_rule, argument_rules, fork_rule, length_rule, one_rule, wants_many, wants_one}
+use Rattle.kt_prog.specs.ForkRules.{argument_rule, argument_rules, fork_rule, one_rule, wants_many, wants_one}
 use Rattle.kt_prog.specs.Rules.{Breaches, ExprRules, breaches_in, denied, element_rule, expr_rules, fold_rule, load_rule, new_name, number_rule, rules_of, store_rule}
 use Rattle.kt_prog.specs.Scope.{Scope, kind_of, with_name}
 use Rattle.kt_prog.specs.StatementRules.{Ruled, StmtRules, block_rules, plainly, rules_of_stmt, rules_of_what, stmt_rules, what_rules}
 use Rattle.kt_prog.specs.Targets.{Target, target_of}
 use Rattle.kt_prog.specs.declared.programs.Arg.{Arg}
-use Rattle.kt_prog.specs.declared.programs.ArgWhat.TheVariants.{Value}
-use Rattle.kt_prog.specs.declared.programs.Expr.{Expr, Num, Var, Elem, Bin, fold-roll-Expr, out-Expr}
+use Rattle.kt_prog.specs.declared.programs.Expr.{Expr, Num, Var, Elem, Bin, fold-roll-Expr}
 use Rattle.kt_prog.specs.declared.programs.Expr.TheVariants.{rolls-Num, rolls-Var, rolls-Elem, rolls-Bin}
 use Rattle.kt_prog.specs.declared.programs.Expr.TheViews.{outs-Elem, outs-Var}
 use Rattle.kt_prog.specs.declared.programs.Expr.TheOpen as E
@@ -30,15 +29,15 @@ use Rattle.kt_prog.specs.declared.programs.Program.{Program}
 use Rattle.kt_prog.specs.declared.programs.Sort.{Sort}
 use Rattle.kt_prog.specs.declared.programs.Sort.TheVariants as S
 use Rattle.kt_prog.specs.declared.programs.Stmt.{Stmt, fold_out-Stmt}
-use Rattle.kt_prog.specs.declared.programs.What.{What, Store, Fold, For, Fork, fold-roll-What}
+use Rattle.kt_prog.specs.declared.programs.What.{Store, Fold, For, Fork, fold-roll-What}
 use Rattle.kt_prog.specs.declared.programs.What.TheVariants as W
 use Rattle.kt_prog.specs.declared.programs.What.TheOpen as F
-use Rattle.kt_prog.specs.declared.sight.Kind.TheVariants.{Number, One, Many}
+use Rattle.kt_prog.specs.declared.sight.Kind.TheVariants.{Number}
 use Rattle.kt_text.specs.declared.commands.Kind.{Kind}
 use Rattle.kt_text.specs.declared.commands.Kind.TheVariants.{Mul, Walks, Stencil, Scan}
 use Rattle.kt_gen.specs.Jobs.{IsSize}
 use Rattle.kt_gen.specs.Texts.{rounds_of}
-use Rattle.kt_gen.specs.Trees.{bare, below, copies, copy, each, fork, member, mul_program, number, object, on, one_added, one_copied, program_of, range, round, row_args, scan_all, scan_program, smooth, stencil_program, sum_all, sums, tile, tile_args, tiles, walks_program}
+use Rattle.kt_gen.specs.Trees.{bare, below, copies, copy, each, fork, member, mul_program, object, on, one_added, one_copied, program_of, range, round, row_args, scan_all, scan_program, smooth, stencil_program, sum_all, sums, tile, tile_args, tiles, walks_program}
 
 -- ---- the rules of each form
 

@@ -1,18 +1,15 @@
 -- The generated programs are written: their canonical texts are jobs of them, whatever stands behind.
-use Rattle.std.proofs.Common.{◌≡◌, ◌≤◌, ◌<◌, Bool, true, false, ℕ, zero, suc, ◌+◌, ◌*◌, ◌^◌, List, [], ◌∷◌, ◌++◌, max, Option, Some, None, codes, nat_le, refl, ap, sym, subst, ◌∙◌, arith}
+use Rattle.std.proofs.Common.{◌≤◌, ◌<◌, Bool, true, false, ℕ, suc, ◌+◌, ◌*◌, ◌^◌, List, [], ◌∷◌, Some, None, codes, refl, ap, arith}
 use Rattle.std.specs.Prelude.{◌||◌}
-use Rattle.std.proofs.Math.Nat.{one-le-mul}
 use Rattle.std.proofs.lemmas.Nat.{mul-le}
 use Rattle.kt_law.specs.declared.modes.Mode.TheVariants.{R, W, Cw}
 use Rattle.kt_law.specs.declared.operators.BinOp.{BinOp}
 use Rattle.kt_law.specs.declared.operators.BinOp.TheVariants as B
-use Rattle.kt_law.specs.declared.operators.Op.{Op}
 use Rattle.kt_law.specs.declared.operators.Op.TheVariants as O
 use Rattle.kt_law.specs.declared.places.Place.{Place}
 use Rattle.kt_prog.specs.declared.programs.Arg.{Arg}
 use Rattle.kt_prog.specs.declared.programs.ArgWhat.TheVariants.{Value}
 use Rattle.kt_prog.specs.declared.programs.Expr.{Expr, Num, Var, Elem, Bin}
-use Rattle.kt_prog.specs.declared.programs.Family.{Family}
 use Rattle.kt_prog.specs.declared.programs.Program.{Program}
 use Rattle.kt_prog.specs.declared.programs.Stmt.{Stmt}
 use Rattle.kt_print.specs.CanonicalExpressions.{left_grouped, level_of, printed, right_grouped}
@@ -32,7 +29,7 @@ use Rattle.kt_canon.proofs.ReadAgain.{job_again}
 use Rattle.kt_gen.proofs.Rounds.{few_rounds}
 use Rattle.kt_gen.specs.Jobs.{IsSize}
 use Rattle.kt_gen.specs.Texts.{rounds_of}
-use Rattle.kt_gen.specs.Trees.{bare, below, copies, copy, each, fork, member, mul_program, number, object, on, one_added, one_copied, param, program_of, range, round, row_args, scan_all, scan_program, smooth, stencil_program, sum_all, sums, tile, tile_args, tiles, walks_program}
+use Rattle.kt_gen.specs.Trees.{bare, below, copies, copy, each, fork, member, mul_program, number, on, one_added, one_copied, program_of, range, round, scan_program, smooth, stencil_program, sums, tile, tile_args, tiles, walks_program}
 
 -- ---- words
 

@@ -8,7 +8,6 @@ use Rattle.kt_prog.specs.declared.programs.Arg.{Arg}
 use Rattle.kt_prog.specs.declared.programs.ArgWhat.TheVariants.{Value}
 use Rattle.kt_prog.specs.declared.programs.Expr.{Expr, Num, Var, Elem, Bin}
 use Rattle.kt_prog.specs.declared.programs.Family.{Family}
-use Rattle.kt_prog.specs.declared.programs.Main.{Main}
 use Rattle.kt_prog.specs.declared.programs.Param.{Param}
 use Rattle.kt_prog.specs.declared.programs.Program.{Program}
 use Rattle.kt_prog.specs.declared.programs.Sort.{Sort}

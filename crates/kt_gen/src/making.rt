@@ -6,7 +6,6 @@ ghost use Rattle.kt_canon.specs.Laws.{IsWritten};
 ghost use Rattle.kt_gen.specs.Jobs.{IsReadAs, IsSize, job_text};
 ghost use Rattle.kt_gen.specs.Numbers.{numbers_of};
 ghost use Rattle.kt_gen.specs.Texts.{program_text};
-ghost use Rattle.kt_gen.specs.Trees.{program_of};
 
 use crate::numbers::Drawing;
 use crate::programs::program;

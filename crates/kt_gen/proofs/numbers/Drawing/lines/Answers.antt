@@ -1,7 +1,7 @@
 use Rattle.std.proofs.Common.{◌≡◌, ◌<◌, ◌++◌, ℕ, ◌-◌, List, ap, sym, ◌∙◌, arith, string_bytes}
 use Rattle.std.specs.List.{flat_map, range_with_len}
 use Rattle.kt_gen.specs.Numbers.{members_of, row_of, row_text}
-use Rattle.kt_gen.proofs.RowNumbers.{NextRow, all_lines, all_numbers, next_row, row_length, rows_more}
+use Rattle.kt_gen.proofs.RowNumbers.{all_lines, all_numbers, next_row, row_length, rows_more}
 use Rattle.kt_gen.proofs.numbers.Drawing.lines.Goals as goal
 
 pub loop-member-init : goal.loop-member-init
