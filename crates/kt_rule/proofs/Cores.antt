@@ -1,5 +1,5 @@
--- Each kind of event on where the tasks lie: the laws of the theory, said of lies. Nothing above this file names a tree or what is left
--- of a run.
+-- Each kind of event on where the tasks lie: the laws of the theory, said of lies. Nothing above this file names a tree
+-- or what is left of a run.
 use Rattle.std.proofs.Common.{◌≡◌, ◌≢◌, ℕ, suc, ◌<◌, ◌⊎◌, Bool, true, false, cond, List, [], ◌∷◌, ◌++◌, length, sym, refl, ap, ◌∙◌, subst, inl, inr, arith, Option}
 use mathlib.Core.Option as o
 use mathlib.Core.Option.{none, some, some-ne-none}
@@ -292,7 +292,11 @@ module _ (j : Setup) (l : Laws (machine_of j.program) (rights_in j.program)) (li
                 | inl g ↦ (y, g.1)
                 | inr g ↦ (elim (put_cases lies p (some u) q) [ inl i ↦ (u, g.1 ∙ i.1) | inr i ↦ (old.0, g.1 ∙ (i.1 ∙ old.1)) ])
               ])
-              | inr h ↦ inl (y, ap (put (put lies p (some u)) (child p n) (some y)) h ∙ put_here (put lies p (some u)) (child p n) (some y))
+              | inr h ↦ inl (
+                y,
+                ap (put (put lies p (some u)) (child p n) (some y)) h ∙ put_here (put lies p (some u)) (child p n)
+                    (some y),
+              )
             ];
         unlooped = λ q z d. elim (at_put (put lies p (some u)) (child p n) q y z d) [
           | inl g ↦ ap (λ (x : Lie). x.indexes) (sym g.1) ∙ none_yet

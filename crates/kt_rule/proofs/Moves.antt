@@ -1,6 +1,6 @@
--- A step of a live seat: the rule again, from what the step owes (`Owed`). Every kind of step ends in one of three: a turn of one task (`turned`), a load
--- (`learned`), or `assemble` itself. A later fact over words that are no record's and no element's gets a field of `Owed`, and one lemma that it stays where
--- those words do.
+-- A step of a live seat: the rule again, from what the step owes (`Owed`). Every kind of step ends in one of three: a
+-- turn of one task (`turned`), a load (`learned`), or `assemble` itself. A later fact over words that are no record's
+-- and no element's gets a field of `Owed`, and one lemma that it stays where those words do.
 use Rattle.std.proofs.Common.{◌≡◌, ◌≢◌, ℕ, zero, suc, ◌+◌, ◌*◌, ◌<◌, ◌≤◌, ◌⊎◌, true, false, List, [], ◌∷◌, length, set, sym, refl, ap, ◌∙◌, subst, inl, inr, arith, ⊎_elim, length-set}
 use mathlib.Core.Option.{some, some-injective, some-ne-none}
 use lib.ListN.{get_elem?}

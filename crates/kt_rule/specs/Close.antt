@@ -105,9 +105,9 @@ abbrev pub BeginsBody : Setup → Execution → Type 0
 BeginsBody j e = (k : ℕ) × (x : Entry (machine_of j.program)) × (nth (the_run j).entries k ≡ Some x)
     × Begins (machine_of j.program) (task_in j e) x
 
--- the joined view is the reference run: the elements are its store; its entries, in its order, are those of some paths; each such path
--- stands
--- once among the claimed and once among the begun, and no other does; and each execution says what the run's entry of its path says
+-- the joined view is the reference run: the elements are its store; its entries, in its order, are those of some paths;
+-- each such path stands once among the claimed and once among the begun, and no other does; and each execution says
+-- what the run's entry of its path says
 pub record IsRun (j : Setup) (store : List ℕ) (v : View) : Type 0 where
   pub rows : (the_run j).store ≡ store
   pub paths : List Path

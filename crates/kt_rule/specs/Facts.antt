@@ -1,6 +1,5 @@
--- What the words and the views say of the tasks, whichever step comes next: of records, of what a seat knows, of the lists of all seats
--- together, of the
--- drawn count, and of the stop word.
+-- What the words and the views say of the tasks, whichever step comes next: of records, of what a seat knows, of the
+-- lists of all seats together, of the drawn count, and of the stop word.
 use Rattle.std.specs.Prelude.{◌≡◌, ℕ, suc, ◌+◌, ◌*◌, ◌<◌, ◌≤◌, ◌⊎◌, true, false, List, [], ◌∷◌, ◌++◌, length, map, take, Some}
 use mathlib.Core.Option.{Option, none, some}
 use lib.ListN.{get_elem?}
@@ -237,9 +236,8 @@ abbrev pub waiting : Setup → Path → Option Lie → ℕ
 waiting j p none = 0
 waiting j p (some t) = next_weight (machine_of j.program) is_task (left (machine_of j.program) (task_of j p t))
 
--- the drawn count counts the tasks that were published and those that were drawn and are still to be published, each for a fork that is
--- next;
--- and it goes over the limit once for each seat at most
+-- the drawn count counts the tasks that were published and those that were drawn and are still to be published, each
+-- for a fork that is next; and it goes over the limit once for each seat at most
 pub record Drawn (j : Setup) (lies : Lies) (ws : List ℕ) (views : List View) : Type 0 where
   pub count : word_at (layout_of j) ws drawn_at ≡ weigh (λ (v : View). length v.region.mine + length v.draws.hands) views
   pub hands : (p : Path) → weigh (λ (v : View). drawn_in v p) views ≤ waiting j p (lies p)

@@ -1,8 +1,8 @@
 -- Where each task lies and how it stands, and the core that this is.
 --
--- A task is claimed by one exchange of its state word, and from then on it is in one hand after another. A task that is claimed for a
--- thief is promised
--- by the seat that claimed it, then posted in the thief's post word, then given to the thief; its state word is the same all the time.
+-- A task is claimed by one exchange of its state word, and from then on it is in one hand after another. A task that is
+-- claimed for a thief is promised by the seat that claimed it, then posted in the thief's post word, then given to the
+-- thief; its state word is the same all the time.
 use Rattle.std.specs.Prelude.{◌≡◌, ℕ, suc, ◌⊎◌, Bool, true, false, List, [], map, length}
 use mathlib.Core.Option.{Option, none, some}
 use lib.ListN.{get_elem?}

@@ -43,9 +43,9 @@ pub record Desked (l : Layout) (ws : List ℕ) (seat : ℕ) (d : Desk) : Type 0 
   pub wrote : (e : Wrote) → In e d.wrote → In e.thief d.held × (word_at l ws (worker_word e.thief answer) ≡ e.piece)
   pub got : d.got ≡ true → (d.saw ≡ true) × (word_at l ws (worker_word seat answer) ≡ d.piece)
 
--- each post word is a post, and each request word names no more than a worker; a post gives a task exactly where this task stands posted
--- for
--- that worker; the promised tasks are those that seats have in hand; the posts of workers without a seat are idle
+-- each post word is a post, and each request word names no more than a worker; a post gives a task exactly where this
+-- task stands posted for that worker; the promised tasks are those that seats have in hand; the posts of workers
+-- without a seat are idle
 pub record Asked (l : Layout) (lies : Lies) (ws : List ℕ) (views : List View) : Type 0 where
   pub posts : (k : ℕ) → k < l.workers → (o : Post) × IsPost o × (word_at l ws (worker_word k post) ≡ packed_post o)
   pub leads : (k : ℕ) → k < l.workers → word_at l ws (worker_word k request) ≤ l.workers

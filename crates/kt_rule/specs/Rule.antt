@@ -1,44 +1,41 @@
 -- The rule of a run: what holds of its words and of the views of its seats between any two atomic steps.
 --
--- THE PROTOCOL. The workers of a run share one table of words. Each has a seat at it; a seat's view is what this worker knows, and only
--- its own steps
--- change it. A step reads or changes one word. So the whole protocol is: who may change which word when, and what makes it sure that
--- nobody else can.
+-- THE PROTOCOL. The workers of a run share one table of words. Each has a seat at it; a seat's view is what this worker
+-- knows, and only its own steps change it. A step reads or changes one word. So the whole protocol is: who may change
+-- which word when, and what makes it sure that nobody else can.
 --
---   word                         who changes it                                   why nobody else can
---   a record's state word        its owner publishes it Unclaimed, once           the record is the first free one of its own region
---                                whoever claims: one exchange from Unclaimed      an exchange finds Unclaimed once alone
---                                the worker in whose hand the task is: to         a claimed task is in one hand: its path stands once
--- among the
---                                Running, later to Finished                       promised, posted, given and begun tasks of all seats
---   a record's other words       its owner, before it publishes the record        the record is free, and in its own region
---   an element                   the worker whose body does it as its next act    any number of bodies may; the rights of calls make the
--- order
---                                                                                 of their acts indifferent
---   the count of drawn tasks     anybody, by one more, who is about to fork       a fetch loses nothing
---   the stop word                anybody whose draw went over the limit           it never becomes 0 again
---   a worker's request word      whoever leads the requests at this worker        an exchange from 0; and 0 again by the same
---   a worker's post word         its worker, while it is Idle or holds an answer  the post says whose turn it is: Posted is the leader's
--- to hold,
---                                the leader at the victim, while it is Posted     Held the holder's to answer
---                                or Held
+--   a record's state word
+--       published Unclaimed by the owner of the region, once: the record is the first free one of its own region;
+--       claimed by anybody, by one exchange from Unclaimed: an exchange finds Unclaimed only once;
+--       Running and later Finished by the worker in whose hand the task is: the path of a claimed task stands once among
+--       the promised, posted, given and begun tasks of all seats, so it is in one hand
+--   a record's other words
+--       by the owner of the region before it publishes the record: the record is free
+--   an element
+--       by the worker whose body does it as its next act: any number of bodies may at once, since the rights of calls
+--       make the order of their acts indifferent
+--   the count of drawn tasks
+--       by anybody who is about to fork, by one more: a fetch loses nothing
+--   the stop word
+--       by anybody whose draw went over the limit: it never becomes 0 again
+--   a worker's request word
+--       by whoever leads the requests at this worker: an exchange from 0, and 0 again by the same
+--   a worker's post word
+--       by this worker while it is Idle or holds an answer, by a leader at the victim while it is Posted or Held: the
+--       word says whose turn it is
 --
--- A RECORD'S LIFE. Free; its fields are written; Unclaimed by the store that publishes it; then either Running by the exchange of its
--- owner, which
--- goes in order, or Given by the exchange of a leader for a thief, which has scanned the frame; Running by the thief's store; Finished
--- by the store
--- of whoever runs it.
+-- A RECORD'S LIFE. Free; its fields are written; Unclaimed by the store that publishes it; then either Running by the
+-- exchange of its owner, which goes in order, or Given by the exchange of a leader for a thief, which has scanned the
+-- frame; Running by the thief's store; Finished by the store of whoever runs it.
 --
--- WHAT IS SHOWN. With the ghost function `lies` (where each task lies and how it stands) words and views are a core of a run, and this
--- core is lawful:
--- so it ends in the reference run, whoever did what. The function is no choice: `Shown` computes the core from words and views alone. A
--- kind of step is
--- allowed where the rule holds afterwards; the crate of the steps proves this once for each kind, and which event of a run the step is.
+-- WHAT IS SHOWN. With the ghost function `lies` (where each task lies and how it stands) words and views are a core of
+-- a run, and this core is lawful: so it ends in the reference run, whoever did what. The function is no choice: `Shown`
+-- computes the core from words and views alone. A kind of step is allowed where the rule holds afterwards; the crate of
+-- the steps proves this once for each kind, and which event of a run the step is.
 --
--- A VIEW IS OF USE only for what stays so whatever the others do. Each fact of a view below is kept by every step of every other seat:
--- tasks finish and
--- stay finished; a task in hand is in no other hand; a note speaks of the frame that its state word names, and where that frame is gone
--- of nothing.
+-- A VIEW IS OF USE only for what stays so whatever the others do. Each fact of a view below is kept by every step of
+-- every other seat: tasks finish and stay finished; a task in hand is in no other hand; a note speaks of the frame that
+-- its state word names, and where that frame is gone of nothing.
 use Rattle.std.specs.Prelude.{◌≡◌, ℕ, ◌*◌, ◌<◌, ◌≤◌, ◌⊎◌, false, List, [], ◌∷◌, length}
 use mathlib.Core.Option.{some}
 use lib.ListN.{get_elem?}

@@ -1,6 +1,5 @@
--- The core that words and views show, computed: of each path the execution that has it, else what the record says of the task that was
--- published
--- with it. Its store is the element words.
+-- The core that words and views show, computed: of each path the execution that has it, else what the record says of
+-- the task that was published with it. Its store is the element words.
 use Rattle.std.specs.Prelude.{suc, cond, nat_eq, List, [], ◌∷◌, ◌++◌, map}
 use mathlib.Core.Option.{Option, none, some}
 use Rattle.atomic_table.specs.Table.{State}

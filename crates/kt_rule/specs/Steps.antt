@@ -1,7 +1,6 @@
--- What a seat knows after a step of each kind, and the conditions under which it may make it. `begun_by`, `over` and their like say what
--- becomes of one entry
--- of a list; `won_own`, `starts` and their like of the whole view; `ClaimsOwn`, `Starts` and their like what the step tells, with the
--- word that it found.
+-- What a seat knows after a step of each kind, and the conditions under which it may make it. `begun_by`, `over` and
+-- their like say what becomes of one entry of a list; `won_own`, `starts` and their like of the whole view;
+-- `ClaimsOwn`, `Starts` and their like what the step tells, with the word that it found.
 use Rattle.std.specs.Prelude.{◌≡◌, ◌≢◌, ℕ, suc, ◌+◌, ◌%◌, ◌<◌, ◌≤◌, ◌⊎◌, ◌==◌, ◌&&◌, not, true, false, cond, List, [], ◌∷◌, ◌++◌, length, MatchBool}
 use mathlib.Core.Option.{some}
 use lib.ListN.{get_elem?}
@@ -225,8 +224,8 @@ paths_at a (m ∷ ms) = cond (m.berth.at == a) (m.path ∷ paths_at a ms) (paths
 abbrev pub learnt : View → ℕ → List Path
 learnt v a = cond (a == 0) ([] ∷ []) [] ++ paths_at a v.region.spots
 
--- a load of a state word: the record is noted, and where a task is found finished of which the seat knows that it lies there, it knows
--- that
+-- a load of a state word: the record is noted, and where a task is found finished of which the seat knows that it lies
+-- there, it knows that
 abbrev pub stands : View → ℕ → ℕ → View
 stands v a n = record v {
   seen = record v.seen {

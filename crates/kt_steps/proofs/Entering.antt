@@ -1,6 +1,5 @@
--- What each kind of step does to the core that words and views show: which event it enters, that this is enabled there, and that the
--- core after it is
--- the one that the event makes.
+-- What each kind of step does to the core that words and views show: which event it enters, that this is enabled there,
+-- and that the core after it is the one that the event makes.
 use Rattle.std.proofs.Common.{◌≡◌, ℕ, suc, ◌*◌, ◌<◌, false, List, set, map, length, sym, refl, ap, ◌∙◌, subst, inl, inr, arith, Option}
 use mathlib.Core.Option.{some}
 use Rattle.atomic_table.specs.Table.{State}
@@ -260,7 +259,8 @@ act_enters j s (lies, f) id v (at, live) e rest runs d next next_is in_e =
       acts_on j lies s _ f e.spot.path _ (head_is j lies s f id v at live e rest runs) _ refl g
           (head_running j lies s f id v at live e rest runs) d next
           (ap (left (machine_of j.program)) (head_task j lies s f id v at live e rest runs) ∙ next_is)
-          (u5_is j lies s f id v at live e rest runs d next next_is in_e) (after_is j lies s f id v at live e rest runs d next next_is in_e),
+          (u5_is j lies s f id v at live e rest runs d next next_is in_e)
+          (after_is j lies s f id v at live e rest runs d next next_is in_e),
     )
 
 pub finish_enters : FinishEnters
@@ -294,7 +294,8 @@ publish_enters j s (lies, f) id v (at, live) e rest runs c code next b call_is a
       moves j (Forks e.spot.path c) lies _ s _ f g (
         f.core.there e.spot.path _ (head_is j lies s f id v at live e rest runs),
         ap (λ (z : Task (machine_of j.program)). z.phase)
-            (get_at j lies e.spot.path _ (head_is j lies s f id v at live e rest runs)) ∙ head_running j lies s f id v at live e rest runs,
+            (get_at j lies e.spot.path _ (head_is j lies s f id v at live e rest runs))
+            ∙ head_running j lies s f id v at live e rest runs,
         (
           code,
           ap (left (machine_of j.program)) (get_at j lies e.spot.path _ (head_is j lies s f id v at live e rest runs)

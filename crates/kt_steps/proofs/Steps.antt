@@ -1,4 +1,5 @@
--- Steps on a task that is there: a claim, a start, an operation on an element, a finish. Each turns one task and one word, and ends in `turned`.
+-- Steps on a task that is there: a claim, a start, an operation on an element, a finish. Each turns one task and one
+-- word, and ends in `turned`.
 use Rattle.std.proofs.Common.{◌≡◌, ◌≢◌, ℕ, zero, suc, ◌+◌, ◌*◌, ◌<◌, ◌≤◌, ◌⊎◌, eqb, false, cond, List, [], ◌∷◌, ◌++◌, append-nil, set, map, take, get_or, length, slice_index, sym, refl, ap, ◌∙◌, subst, inl, inr, arith, ⊎_elim, MatchBool, eq-eqb, ne_eqb, length-set, length-append, Option, Some, None}
 use mathlib.Core.Option.{some, some-injective, some-ne-none}
 use prog.Atomic.{either}

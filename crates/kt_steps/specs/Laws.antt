@@ -1,7 +1,6 @@
--- The laws of the rule: what is shown between any two steps, and for each kind of step that changes the shown core which event of a run
--- it enters, that
--- the event is enabled there, and that the core after the step is the one that the event makes. Every other kind leaves the shown core
--- as it is.
+-- The laws of the rule: what is shown between any two steps, and for each kind of step that changes the shown core
+-- which event of a run it enters, that the event is enabled there, and that the core after the step is the one that the
+-- event makes. Every other kind leaves the shown core as it is.
 use Rattle.std.specs.Prelude.{◌≡◌, ℕ, suc, ◌<◌, ◌≤◌, List, [], ◌∷◌, set, length, slice_index, Option}
 use mathlib.Core.Option.{some}
 use lib.ListN.{get_elem?}
@@ -70,8 +69,8 @@ ClaimOwnEnters = (j : Setup) (s : State Slots View) → IsRuled j s → (id : �
     → Enters j (Claims m.path) s (after_step s (state_place (layout_of j) m.berth.at) (state_word m.berth (S.Running v.worker)) id
     (won_own v m))
 
--- the exchange that claims for a thief the entry that was noted last, where it finds the word that was noted: by the notes the entry is
--- ready
+-- the exchange that claims for a thief the entry that was noted last, where it finds the word that was noted: by the
+-- notes the entry is ready
 abbrev pub ClaimForEnters : Type 0
 ClaimForEnters = (j : Setup) (s : State Slots View) → IsRuled j s → (id : ℕ) (v : View) → IsSeat s id v → (own : Note) (ns : List Note)
     → v.seen.notes ≡ own ∷ ns → IsFound own → IsReady v own → (thief : ℕ) → thief < j.workers → (frame fork : ℕ)

@@ -1,16 +1,18 @@
 -- What the steps of the calls tell, in words that name no seat's lists but those of its view.
-use Rattle.std.specs.Prelude.{◌≡◌, ◌≢◌, ◌<◌, ◌≤◌, ◌*◌, ◌==◌, ℕ, List, [], ◌∷◌, MatchBool, Option, Some}
+use Rattle.std.specs.Prelude.{◌≡◌, ◌≢◌, ◌<◌, ◌*◌, ℕ, List, ◌∷◌, Option, Some}
 use mathlib.Core.Option.{some}
 use lib.ListN.{get_elem?}
-use Rattle.atomic_table.specs.Table.{Step, Me}
+use Rattle.atomic_table.specs.Table.{Step}
 use Rattle.kt_law.specs.Acts.{Act, Deed}
 use Rattle.kt_law.specs.declared.stands.Stand.{Stand}
 use Rattle.kt_law.specs.declared.stands.Stand.TheVariants as S
-use Rattle.kt_order.specs.Body.{Do}
+use Rattle.kt_order.specs.Body.{Do, Stop}
 use Rattle.kt_order.specs.Machine.{Code}
 use Rattle.kt_order.specs.Rest.{left}
+use Rattle.kt_prog.specs.Script.{Fault}
 use Rattle.kt_prog.specs.Reference.{machine_of}
 use Rattle.kt_prog.specs.Store.{place_of}
+use Rattle.kt_runs.specs.ByPath.{child}
 use Rattle.kt_words.specs.declared.layouts.TheConstants.{RECORDS}
 use Rattle.kt_words.specs.declared.layouts.Layout.{Layout}
 use Rattle.kt_rule.specs.declared.views.Setup.{Setup}
@@ -18,10 +20,11 @@ use Rattle.kt_rule.specs.declared.views.Spot.{Spot}
 use Rattle.kt_rule.specs.declared.views.Execution.{Execution}
 use Rattle.kt_rule.specs.declared.views.Promise.{Promise}
 use Rattle.kt_rule.specs.declared.views.View.{View}
+use Rattle.kt_rule.specs.Lists.{In}
 use Rattle.kt_rule.specs.Records.{layout_of}
 use Rattle.kt_rule.specs.Facts.{task_in}
 use Rattle.kt_rule.specs.Rule.{Slots}
-use Rattle.kt_rule.specs.Steps.{Tells, state_place, state_word, IsState, ClaimsOwn, starts_own, ends, does_one, Stands}
+use Rattle.kt_rule.specs.Steps.{state_place, state_word, IsState, ClaimsOwn, starts_own, ends, does_one, Stands}
 
 -- the view of a seat that stands for somebody, in a run with this layout, of this worker
 pub record IsLiveOf (l : Layout) (worker : ℕ) (v : View) : Type 0 where
@@ -33,7 +36,8 @@ pub record IsLiveOf (l : Layout) (worker : ℕ) (v : View) : Type 0 where
 
 -- a record of the seat's own region stands at the word
 abbrev pub IsOwnAt : Step Slots → View → Spot → Type 0
-IsOwnAt st v m = (j : Setup) × (v.setup ≡ Some j) × ((a : ℕ) × (get_elem? v.region.spots a ≡ some m)) × (st.word ≡ state_place (layout_of j) m.berth.at)
+IsOwnAt st v m = (j : Setup) × (v.setup ≡ Some j) × ((a : ℕ) × (get_elem? v.region.spots a ≡ some m))
+    × (st.word ≡ state_place (layout_of j) m.berth.at)
 
 -- whichever it is, its task's state was found
 abbrev pub ShowsOwn : Step Slots → View → ℕ → View → Type 0
@@ -71,7 +75,8 @@ DoesNext st v n w = DidNext v n w
 
 -- whichever record stands at the word was looked at
 abbrev pub StandsAt : Step Slots → View → ℕ → View → Type 0
-StandsAt st v n w = (j : Setup) → v.setup ≡ Some j → (a : ℕ) → a < RECORDS * j.workers → st.word ≡ state_place (layout_of j) a → Stands a st v n w
+StandsAt st v n w = (j : Setup) → v.setup ≡ Some j → (a : ℕ) → a < RECORDS * j.workers → st.word ≡ state_place (layout_of j) a
+    → Stands a st v n w
 
 -- this deed on the element with this number is the next operation of the running body
 pub record IsDueOn (v : View) (element : ℕ) (deed : Deed) : Type 0 where
@@ -85,3 +90,19 @@ pub record IsDueOn (v : View) (element : ℕ) (deed : Deed) : Type 0 where
   pub place : place_of setup.program.families act ≡ element
   pub more : ℕ → Code (machine_of setup.program)
   pub next : left (machine_of setup.program) (task_in setup head) ≡ Do act more
+
+-- the task of the seat's own record with this number
+abbrev pub IsMine : View → ℕ → Spot → Type 0
+IsMine v at m = (a : ℕ) × (get_elem? v.region.spots a ≡ some m) × (m.berth.at ≡ at)
+
+-- the running body is of the record with this number, it is at its end or at a fault, and its children are known finished
+pub record IsEnded (v : View) (at : ℕ) : Type 0 where
+  pub setup : Setup
+  pub told : v.setup ≡ Some setup
+  pub head : Execution
+  pub rest : List Execution
+  pub runs : v.tasks.running ≡ head ∷ rest
+  pub lies : head.spot.berth.at ≡ at
+  pub fault : Option Fault
+  pub next : left (machine_of setup.program) (task_in setup head) ≡ Stop fault
+  pub children : (k : ℕ) → k < head.forks → In (child head.spot.path k) v.seen.known

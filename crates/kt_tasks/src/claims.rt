@@ -1,0 +1,135 @@
+//! Claims, starts and finishes.
+ghost use Rattle.std.specs.Prelude.{◌≡◌, ◌≢◌, ℕ, ◌*◌, ◌<◌, [], ◌∷◌, List};
+ghost use mathlib.Core.Option.{some};
+ghost use lib.ListN.{get_elem?};
+ghost use Rattle.kt_law.specs.declared.stands.Stand.TheVariants as S;
+ghost use Rattle.kt_order.specs.Body.{Stop};
+ghost use Rattle.kt_order.specs.Rest.{left};
+ghost use Rattle.kt_prog.specs.Reference.{machine_of};
+ghost use Rattle.kt_runs.specs.ByPath.{child};
+ghost use Rattle.kt_rule.specs.Facts.{task_in};
+ghost use Rattle.kt_rule.specs.Lists.{In};
+ghost use Rattle.kt_rule.specs.Steps.{BeforeKnown, Tells, ends, starts_own, won_own};
+ghost use Rattle.kt_rule.specs.declared.views.Execution.{Execution};
+ghost use Rattle.kt_rule.specs.declared.views.Promise.{Promise};
+ghost use Rattle.kt_rule.specs.declared.views.Spot.{Spot};
+ghost use Rattle.kt_steps.specs.Told.{ClaimsOwnAt, EndsAt, IsEnded, IsLiveOf, IsMine, ShowsOwn, ShowsPromised, ShowsRunning, StartsOwnAt};
+ghost use Rattle.kt_tasks.specs.declared.states.Claim.TheVariants as C;
+ghost use Rattle.kt_tasks.specs.Claims.{Claimed};
+ghost use Rattle.kt_words.specs.Words.{IsStateWord, packed_state};
+ghost use Rattle.kt_words.specs.declared.layouts.TheConstants.{RECORDS};
+
+use crate::states::{Claim, state_in};
+use atomic_table::Play;
+use kt_law::Stand;
+use kt_rule::{RunTable, Seat, View};
+use kt_words::fields::STATE;
+use kt_words::{StateWord, pack_state};
+
+struct LookingOwn;
+
+impl Play<(), View> for LookingOwn {
+    ghost then = { Tells ShowsOwn };
+}
+
+struct ClaimingOwn;
+
+impl Play<(), View> for ClaimingOwn {
+    ghost then = { Tells ClaimsOwnAt };
+}
+
+struct LookingPromised;
+
+impl Play<(), View> for LookingPromised {
+    ghost then = { Tells ShowsPromised };
+}
+
+struct Starting;
+
+impl Play<(), View> for Starting {
+    ghost then = { Tells StartsOwnAt };
+}
+
+struct LookingRunning;
+
+impl Play<(), View> for LookingRunning {
+    ghost then = { Tells ShowsRunning };
+}
+
+struct Finishing;
+
+impl Play<(), View> for Finishing {
+    ghost then = { Tells EndsAt };
+}
+
+/// Finishes the task of the running body, which is at its end or at a fault, and whose children the seat knows finished.
+pub fn finish(t: &RunTable, s: &mut Seat, at: u32)
+    requires seat { s.old.token.table_id ≡ t.now.table.shared.table_id }
+    requires live { IsLiveOf t.now.layout s.old.worker s.old.token.me.0 }
+    requires inside { at < RECORDS * t.now.layout.workers }
+    requires ended { IsEnded s.old.token.me.0 at }
+    ensures seat { (s.new.token.table_id ≡ s.old.token.table_id) × (s.new.token.me.1 ≡ s.old.token.me.1) × (s.new.worker ≡ s.old.worker) × (s.new.word ≡ s.old.word) }
+    ensures finished { (e : Execution) (rest : List Execution) → s.old.token.me.0.tasks.running ≡ e ∷ rest → s.new.token.me.0 ≡ ends s.old.token.me.0 e rest }
+{
+    let place = t.layout.field(at, STATE);
+    let found = t.table.shared.load::<LookingRunning>(&mut s.token, place);
+    let state = state_in(found);
+    let new = pack_state(&StateWord {
+        frame: state.frame,
+        fork: state.fork,
+        stand: Stand::Finished,
+    });
+    t.table.shared.store::<Finishing>(&mut s.token, place, new);
+}
+
+/// Starts the first task that the seat has claimed, which it claimed for itself.
+pub fn start(t: &RunTable, s: &mut Seat, at: u32)
+    requires seat { s.old.token.table_id ≡ t.now.table.shared.table_id }
+    requires live { IsLiveOf t.now.layout s.old.worker s.old.token.me.0 }
+    requires inside { (at < RECORDS * t.now.layout.workers) × (s.old.worker < 8) }
+    requires promised { (m : Spot) × (rest : List Promise) × (s.old.token.me.0.tasks.promised ≡ record { spot = m; thief = s.old.token.me.0.worker } ∷ rest) × (m.berth.at ≡ at) }
+    ensures seat { (s.new.token.table_id ≡ s.old.token.table_id) × (s.new.token.me.1 ≡ s.old.token.me.1) × (s.new.worker ≡ s.old.worker) × (s.new.word ≡ s.old.word) }
+    ensures started { (m : Promise) (rest : List Promise) → s.old.token.me.0.tasks.promised ≡ m ∷ rest → s.new.token.me.0 ≡ starts_own s.old.token.me.0 m.spot rest }
+{
+    let place = t.layout.field(at, STATE);
+    let found = t.table.shared.load::<LookingPromised>(&mut s.token, place);
+    let state = state_in(found);
+    let new = pack_state(&StateWord {
+        frame: state.frame,
+        fork: state.fork,
+        stand: Stand::Running(s.worker),
+    });
+    t.table.shared.store::<Starting>(&mut s.token, place, new);
+}
+
+/// Claims a record of the seat's own region, all earlier entries of whose frame it knows finished.
+pub fn claim_own(t: &RunTable, s: &mut Seat, at: u32) -> Claim
+    requires seat { s.old.token.table_id ≡ t.now.table.shared.table_id }
+    requires live { IsLiveOf t.now.layout s.old.worker s.old.token.me.0 }
+    requires inside { (at < RECORDS * t.now.layout.workers) × (s.old.worker < 8) }
+    requires mine { (m : Spot) × IsMine s.old.token.me.0 at m × BeforeKnown s.old.token.me.0 m.path }
+    ensures seat { (s.new.token.table_id ≡ s.old.token.table_id) × (s.new.token.me.1 ≡ s.old.token.me.1) × (s.new.worker ≡ s.old.worker) × (s.new.word ≡ s.old.word) }
+    ensures claimed { Claimed s.old.token.me.0 at s.new.token.me.0 result }
+{
+    let place = t.layout.field(at, STATE);
+    let found = t.table.shared.load::<LookingOwn>(&mut s.token, place);
+    let state = state_in(found);
+    let old = pack_state(&StateWord {
+        frame: state.frame,
+        fork: state.fork,
+        stand: Stand::Unclaimed,
+    });
+    let new = pack_state(&StateWord {
+        frame: state.frame,
+        fork: state.fork,
+        stand: Stand::Running(s.worker),
+    });
+    let word = t
+        .table
+        .shared
+        .compare_exchange::<ClaimingOwn>(&mut s.token, place, old, new);
+    if word == old {
+        return Claim::Won;
+    }
+    Claim::Stolen(state_in(word).stand)
+}
