@@ -1,4 +1,9 @@
 //! Claims, starts and finishes.
+//!
+//! A claim is a fetch-and-compare: several workers may try it, and the state
+//! word decides. A start and a finish are stores: the task is one worker's by
+//! then, and nobody else may write its state. All three load the word first,
+//! for the frame and the fork that it keeps.
 ghost use Rattle.std.specs.Prelude.{◌≡◌, ◌≢◌, ℕ, ◌*◌, ◌<◌, [], ◌∷◌, List};
 ghost use mathlib.Core.Option.{some};
 ghost use lib.ListN.{get_elem?};
