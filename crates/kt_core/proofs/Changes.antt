@@ -141,7 +141,7 @@ pub path_short : NextIsRightful → (c : CoreState) (links : List LinkState) (t 
 path_short law c links t call r sound goes at =
     let hands = handed law c links t call r sound goes at in
     let short = depth_fits c.program call r.call.depth hands.fits hands.deeper in
-    ∥∥₁_elim sound.lawful.table le_prop (λ table. let deep = table.deep t r at in omega (arith, deep, short))
+    ∥∥₁_elim sound.lawful.table le_prop (λ table. let deep = table.rows.deep t r at in omega (arith, deep, short))
 
 -- a core with a task more, and its parent gone on
 abbrev pub forked : CoreState → ℕ → TaskRow → TaskRow → CoreState
@@ -159,7 +159,7 @@ once_of : (c : CoreState) → IsLawfulState c → OncePaths (paths_of c.table.ta
 once_of c lawful i j q ati atj =
     let r = mapped_from (λ (u : TaskRow). u.path) c.table.tasks i q ati in
     let s = mapped_from (λ (u : TaskRow). u.path) c.table.tasks j q atj in
-    ∥∥₁_elim lawful.table (Coded-set coded_ℕ i j) (λ table. table.once i j r.0 s.0 r.1 s.1 (r.2 ∙ sym s.2))
+    ∥∥₁_elim lawful.table (Coded-set coded_ℕ i j) (λ table. table.rows.once i j r.0 s.0 r.1 s.1 (r.2 ∙ sym s.2))
 
 pub forked_sound : EventsKeepStatesLawful → NextIsRightful → (c : CoreState) (links : List LinkState) (t : ℕ) (call : CallTree) (r row child : TaskRow)
     → slice_get c.table.tasks t ≡ Some r → row ≡ went_on [] r → child ≡ fresh_row (next_child r c.table.tasks) call → Goes (E.Body t (O.Fork call)) c → IsSound c links

@@ -5,3 +5,6 @@ pub mod Frames
 pub mod Rephasing
 pub mod Changes
 pub mod Opening
+pub mod Looping
+pub mod Cuts
+pub mod Updates

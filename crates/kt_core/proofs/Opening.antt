@@ -9,7 +9,7 @@ use Rattle.kt_prog.specs.Objects.{inputs_of}
 use Rattle.kt_prog.specs.declared.programs.Program.{Program}
 use Rattle.kt_store.specs.Stores.{StoreState, opened}
 use Rattle.kt_tables.specs.Tables.{CoreState, TaskRow, fresh_row, is_child, opening_state}
-use Rattle.kt_tables.specs.TableLaws.{HasNoLoops, OpeningTableIsLawful}
+use Rattle.kt_tables.specs.TableLaws.{OpeningTableIsLawful}
 use Rattle.kt_core.specs.Links.{AllFit, AreLinked, IsParent, IsSettled, IsSound, LinkState, fresh_links, numbers_of}
 
 alone : {X : Type 0} → (x y : X) (t : ℕ) → slice_get (x ∷ []) t ≡ Some y → y ≡ x
@@ -35,10 +35,10 @@ main_settled {tasks} l is = subst (IsSettled tasks) (sym is) (record { within = 
 main_fits : (p : Program) → AllFit p (main_call ∷ [])
 main_fits p t call at = is_main (alone main_call call t at)
 
-pub opening_sound : OpeningTableIsLawful → (p : Program) (input : List ℕ) → IsAccepted p → HasNoLoops p → length input ≡ inputs_of p.families
+pub opening_sound : OpeningTableIsLawful → (p : Program) (input : List ℕ) → IsAccepted p → length input ≡ inputs_of p.families
     → IsSound (opening_state p input) (fresh_links None ∷ [])
-opening_sound law p input ok loops whole = record {
-  lawful = record { accepted = ok; loops = loops; input = whole; table = ∣ law p input ok ∣₁ };
+opening_sound law p input ok whole = record {
+  lawful = record { accepted = ok; input = whole; table = ∣ law p input ok ∣₁ };
   linked = main_linked;
   settled = λ t l at. main_settled l (alone (fresh_links None) l t at);
   fit = main_fits p;

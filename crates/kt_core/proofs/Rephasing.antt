@@ -1,10 +1,11 @@
 -- Events that put a task into another phase.
-use Rattle.std.proofs.Common.{◌≡◌, ◌<◌, ℕ, List, length, refl, sym, subst, arith, Option, Some, None, true, ◌||◌}
+use Rattle.std.proofs.Common.{◌≡◌, ◌<◌, ◌≤◌, ℕ, List, length, refl, sym, subst, arith, Option, Some, None, Bool, true, false, not, nat_lt, ◌||◌}
+use Rattle.std.proofs.lemmas.Bool.Decides.{nat_tests}
 use Rattle.std.specs.Option.{option_map}
 use Rattle.std.specs.List.{slice_get}
 use Rattle.std.proofs.lemmas.List.{length-set}
 use Rattle.kt_tables.specs.Tables.{TaskRow, CoreState, is_finished, open_before, clash_before, open_child}
-use Rattle.kt_tables.specs.TableEvents.{after_at, in_phase, is_unclaimed, is_ended, is_looping, refusal, state_after}
+use Rattle.kt_tables.specs.TableEvents.{after_at, in_phase, is_unclaimed, is_ended, is_looping, refusal, state_after, unless}
 use Rattle.kt_core.specs.Steps.{rephased, rephased_at}
 use Rattle.kt_tables.specs.declared.events.Event.{Event}
 use Rattle.kt_tables.specs.declared.events.Event.TheVariants as E
@@ -49,9 +50,21 @@ pub ready_refusal : (c : CoreState) (t : ℕ) (r : TaskRow) (o : Option ℕ) →
     → clash_before t r c.table.tasks ≡ o → refusal (E.ClaimReady t) c.table ≡ option_map W.Clash o
 ready_refusal c t r o at phase found = rw (at, phase, found) refl
 
-pub finish_refusal : (c : CoreState) (t : ℕ) (r : TaskRow) (o : Option ℕ) → slice_get c.table.tasks t ≡ Some r → is_ended r.phase || is_looping r.phase ≡ true
-    → open_child r c.table.tasks ≡ o → refusal (E.Finish t) c.table ≡ option_map W.Child o
-finish_refusal c t r o at phase found = rw (at, phase, found) refl
+-- an open child
+pub finish_refusal : (c : CoreState) (t : ℕ) (r : TaskRow) (k : ℕ) → slice_get c.table.tasks t ≡ Some r → is_ended r.phase || is_looping r.phase ≡ true
+    → open_child r c.table.tasks ≡ Some k → refusal (E.Finish t) c.table ≡ Some (W.Child k)
+finish_refusal c t r k at phase found = rw (at, phase, found) refl
+
+-- or else indexes that are left, or none
+pub left_refusal : (c : CoreState) (t : ℕ) (r : TaskRow) (b : Bool) → slice_get c.table.tasks t ≡ Some r → is_ended r.phase || is_looping r.phase ≡ true
+    → open_child r c.table.tasks ≡ None → not (nat_lt 0 r.loop.unretired) ≡ b → refusal (E.Finish t) c.table ≡ unless b (W.Left r.loop.unretired)
+left_refusal c t r b at phase found left = rw (at, phase, found, left) refl
+
+pub none_left : (n : ℕ) → n ≤ 0 → not (nat_lt 0 n) ≡ true
+none_left n few = grind (arith, nat_tests)
+
+pub some_left : (n : ℕ) → 0 < n → not (nat_lt 0 n) ≡ false
+some_left n some = grind (arith, nat_tests)
 
 -- another phase changes nothing of how many tasks there are
 count_at : (t : ℕ) (phase : Phase) (o : Option TaskRow) (tasks : List TaskRow) → length (rephased_at t phase o tasks) ≡ length tasks

@@ -1,3 +1,4 @@
 pub mod Links
 pub mod Steps
 pub mod Sound
+pub mod Pieces

@@ -1,10 +1,10 @@
 -- What the private calls of a core promise.
-use Rattle.std.specs.Prelude.{◌≡◌, ℕ, true, List, Option, Some, None, Result, IfOk, IfErr, slice_get, slice_set}
+use Rattle.std.specs.Prelude.{◌≡◌, ◌||◌, ℕ, true, List, Option, Some, None, Result, IfOk, IfErr, slice_get, slice_set}
 use Rattle.kt_prog.specs.declared.runs.Operation.{Operation}
 use Rattle.kt_prog.specs.declared.runs.Operation.TheVariants as O
 use Rattle.kt_store.specs.Stores.{StoreState}
-use Rattle.kt_tables.specs.Tables.{TaskRow, CoreState, is_finished}
-use Rattle.kt_tables.specs.TableEvents.{CanAsk, Replies, in_phase, refusal, state_after, store_after}
+use Rattle.kt_tables.specs.Tables.{TaskRow, CoreState, is_finished, open_child}
+use Rattle.kt_tables.specs.TableEvents.{CanAsk, Replies, is_ended, is_looping, in_phase, refusal, state_after, store_after}
 use Rattle.kt_tables.specs.TableLaws.{IsLawfulState}
 use Rattle.kt_tables.specs.declared.events.Event.{Event}
 use Rattle.kt_tables.specs.declared.events.Phase.{Phase}
@@ -20,6 +20,10 @@ pub record Steps (e : Event) (old new : CoreState) (answer : Result (Unit {0}) W
 pub record Goes (e : Event) (c : CoreState) : Type 0 where
   pub can : CanAsk c.program e c.table
   pub free : refusal e c.table ≡ None
+
+-- the task has ended, or loops, and none of its children is open
+abbrev pub IsClosed : ℕ → List TaskRow → Type 0
+IsClosed t tasks = (r : TaskRow) → slice_get tasks t ≡ Some r → (is_ended r.phase || is_looping r.phase ≡ true) × (open_child r tasks ≡ None)
 
 -- such an event leaves a lawful core lawful
 abbrev pub EventsKeepStatesLawful : Type 0

@@ -3,8 +3,10 @@
 
 mod claims;
 mod links;
+mod parts;
+mod pieces;
 mod rows;
 mod running;
 
-pub use kt_tables::{BodyFault, Event, Phase, Why};
+pub use kt_tables::{BodyFault, Event, Phase, Stand, Why};
 pub use running::Core;

@@ -1,10 +1,12 @@
 // The tasks of a core.
-ghost use Rattle.std.specs.Prelude.{◌≡◌, ◌≤◌, ◌<◌, ◌-◌, ◌^◌, ◌∷◌, ◌++◌, ◌↔◌, [], IfErr, IfOk, IsTrue, length};
-ghost use Rattle.kt_tables.specs.Tables.{fault_of_row, fresh_row};
+ghost use Rattle.std.specs.Prelude.{◌≡◌, ◌≤◌, ◌<◌, ◌-◌, ◌^◌, ◌∷◌, ◌++◌, ◌↔◌, [], IfErr, IfOk, IsTrue, length, slice_get, true};
+ghost use Rattle.kt_tables.specs.LoopRows.{can_take, has_inside, is_under_way, row_begun, row_indexed, row_retired, row_split, row_taken};
+ghost use Rattle.kt_tables.specs.Tables.{fault_of_row, fresh_row, whole_loop};
 ghost use Rattle.kt_tables.specs.TableEvents.{in_phase, row_after, went_on};
 ghost use Rattle.kt_tables.specs.declared.events.Phase.TheVariants as phase_is;
 ghost use Rattle.kt_prog.specs.declared.runs.Operation.TheVariants as operation_is;
 
+use crate::parts::Part;
 use arrayvec::ArrayVec;
 use kt_law::{F, NoMemory};
 use kt_prog::{Call, FaultAt, Operation, PATH};
@@ -21,6 +23,7 @@ pub struct Row {
     pub answers: Vec<u64>,
     pub done: u64,
     pub fault: Option<BodyFault>,
+    part: Part,
 }
 
 impl Model for Row {
@@ -36,6 +39,7 @@ impl Model for Row {
       answers = r.answers.items;
       done = r.done;
       fault = option_map body_fault r.fault;
+      loop = r.part;
     } };
 }
 
@@ -51,6 +55,7 @@ impl Row {
             answers: Vec::new(alloc),
             done: 0,
             fault: None,
+            part: Part::none(alloc),
         }
     }
 
@@ -89,6 +94,88 @@ impl Row {
         ensures { self.new ≡ in_phase phase self.old }
     {
         self.phase = phase;
+    }
+
+    /// A loop begins with this part.
+    pub fn begin(&mut self, part: Part)
+        requires { part ≡ whole_loop self.old.call.length }
+        ensures { self.new ≡ row_begun self.old }
+    {
+        self.phase = Phase::Looping;
+        self.part = part;
+    }
+
+    /// How many indexes its call has, if it is a loop's.
+    pub fn length(&self) -> u32
+        ensures { result ≡ self.now.call.length }
+    {
+        self.call.length
+    }
+
+    /// How many indexes are not retired.
+    pub fn unretired(&self) -> u32
+        ensures { result ≡ self.now.loop.unretired }
+    {
+        self.part.unretired()
+    }
+
+    /// How many indexes have ended that are not retired.
+    pub fn ended(&self) -> u32
+        ensures { result ≡ self.now.loop.ended }
+    {
+        self.part.ended()
+    }
+
+    pub fn has_inside(&self, at: u32) -> bool
+        ensures { result ≡ has_inside at self.now.loop.pieces }
+    {
+        self.part.has_inside(at)
+    }
+
+    pub fn can_take(&self, at: u32, count: u32) -> bool
+        ensures { result ≡ can_take at count self.now.loop.pieces }
+    {
+        self.part.can_take(at, count)
+    }
+
+    /// Whether the index is taken and its body has not ended.
+    pub fn is_under_way(&self, index: u32) -> bool
+        ensures { result ≡ is_under_way (slice_get self.now.loop.indexes index) }
+    {
+        self.part.is_under_way(index)
+    }
+
+    /// Want of memory changes nothing.
+    pub fn split(&mut self, at: u32) -> Result<(), NoMemory>
+        requires { has_inside at self.old.loop.pieces ≡ true }
+        ensures done { IfOk result (λ _. self.new ≡ row_split at self.old) }
+        ensures same { IfErr result (λ _. self.new ≡ self.old) }
+    {
+        self.part.split(at)
+    }
+
+    pub fn take(&mut self, at: u32, count: u32)
+        requires { can_take at count self.old.loop.pieces ≡ true }
+        ensures { self.new ≡ row_taken at count self.old }
+    {
+        self.part.take(at, count);
+    }
+
+    /// Does what an operation makes of an index that is under way. Want of memory changes nothing.
+    pub fn go_on_index(&mut self, index: u32, operation: &Operation) -> Result<(), NoMemory>
+        requires { is_under_way (slice_get self.old.loop.indexes index) ≡ true }
+        ensures done { IfOk result (λ _. self.new ≡ row_indexed index operation.now self.old) }
+        ensures same { IfErr result (λ _. self.new ≡ self.old) }
+    {
+        self.part.go_on(index, operation)
+    }
+
+    /// Retires so many of the indexes that have ended.
+    pub fn retire(&mut self, count: u32)
+        requires { count ≤ self.old.loop.ended }
+        ensures { self.new ≡ row_retired count self.old }
+    {
+        self.part.retire(count);
     }
 
     /// Whether one operation more can be counted.

@@ -2,15 +2,15 @@
 ghost use Rattle.std.specs.Prelude.{◌≡◌, ◌<◌, ◌≤◌, length, All, IfOk, Some, slice_get};
 ghost use Rattle.kt_law.specs.Acts.{Load};
 ghost use Rattle.kt_prog.specs.Accepted.{IsAccepted};
-ghost use Rattle.kt_prog.specs.Entries.{tasks_of};
+ghost use Rattle.kt_prog.specs.Entries.{indexes_of, tasks_of};
 ghost use Rattle.kt_prog.specs.Objects.{inputs_of, objects_of, width_of};
 ghost use Rattle.kt_prog.specs.Outcome.{answered, outcome_of};
 ghost use Rattle.kt_prog.specs.Reference.{reference};
 ghost use Rattle.kt_prog.specs.Store.{answer};
 ghost use Rattle.kt_core.specs.Links.{FindsAlike, siblings_of};
 ghost use Rattle.kt_core.specs.Steps.{StaysFinished, rephased};
-ghost use Rattle.kt_tables.specs.Tables.{MainIsFinished, TaskRow, clash_before, fault_of_row, open_before, open_child, opening_state};
-ghost use Rattle.kt_tables.specs.TableLaws.{HasNoLoops, IsLawfulState, faults_in};
+ghost use Rattle.kt_tables.specs.Tables.{MainIsFinished, TaskRow, clash_before, count_indexes, fault_of_row, open_before, open_child, opening_state};
+ghost use Rattle.kt_tables.specs.TableLaws.{IsLawfulState, TableGivesReference, faults_in};
 
 mod steps;
 
@@ -58,7 +58,6 @@ impl<'a> Core<'a> {
     /// A run that has not begun: `main` is unclaimed, and the input stands in the store.
     pub fn new(alloc: Global, program: &'a Program, input: &'a [u64]) -> Result<Core<'a>, NoMemory>
         requires accepted { IsAccepted program.now }
-        requires loops { HasNoLoops program.now }
         requires whole { length input.now ≡ inputs_of program.now.families }
         ensures { IfOk result (λ core. core ≡ opening_state program.now input.now) }
     {
@@ -146,19 +145,32 @@ impl<'a> Core<'a> {
         let _ = &self.rows;
     }
 
-    /// Where `main` is finished, the number of tasks, their faults and the store give the outcome of the reference run. The function
-    /// does nothing; its contract is the law.
-    pub fn gives_outcome(&self)
+    /// Where `main` is finished, the store is that of the reference run, and the tasks with what their loads found, the indexes with
+    /// theirs, and the faults are those of the reference run, by path and index, in some order: with faults or none, and past the
+    /// limits too. The function does nothing; its contract is the law.
+    pub fn gives_reference(&self)
         requires { MainIsFinished self.now.table.tasks }
-        ensures { answered (length self.now.table.tasks) 0 (faults_in self.now.program self.now.table.tasks) self.now.table.store ≡ outcome_of self.now.program self.now.input }
+        ensures store { self.now.table.store ≡ (reference self.now.program self.now.input).store }
+        ensures runs { ∥ TableGivesReference self.now.program self.now.input self.now.table ∥₁ }
     {
         self.is_lawful();
         done_table_is_reference();
     }
 
-    /// There are no more tasks than in the reference run. The function does nothing; its contract is the law.
+    /// Where `main` is finished, the numbers of tasks and of indexes, their faults and the store give the outcome of the reference run.
+    /// The function does nothing; its contract is the law.
+    pub fn gives_outcome(&self)
+        requires { MainIsFinished self.now.table.tasks }
+        ensures { answered (length self.now.table.tasks) (count_indexes self.now.table.tasks) (faults_in self.now.program self.now.table.tasks) self.now.table.store ≡ outcome_of self.now.program self.now.input }
+    {
+        self.is_lawful();
+        done_table_is_reference();
+    }
+
+    /// There are no more tasks and no more indexes than in the reference run. The function does nothing; its contract is the law.
     pub fn has_no_more(&self)
-        ensures { length self.now.table.tasks ≤ length (tasks_of self.now.program (reference self.now.program self.now.input).entries) }
+        ensures tasks { length self.now.table.tasks ≤ length (tasks_of self.now.program (reference self.now.program self.now.input).entries) }
+        ensures indexes { count_indexes self.now.table.tasks ≤ length (indexes_of self.now.program (reference self.now.program self.now.input).entries) }
     {
         self.is_lawful();
         tables_have_no_more();

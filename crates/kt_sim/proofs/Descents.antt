@@ -118,14 +118,14 @@ map_long : (q : List ℕ) → length (map suc q) ≡ length q
 map_long [] = refl
 map_long (k ∷ q) = ap suc (map_long q)
 
-pub path_short : (c : CoreState) → IsLawfulState c → (t : ℕ) (r : TaskRow) → slice_get c.table.tasks t ≡ Some r → length r.path ≤ DEPTH
+pub path_short : (c : CoreState) → IsLawfulState c → (t : ℕ) (r : TaskRow) → slice_get c.table.tasks t ≡ Some r → length r.path ≤ suc DEPTH
 path_short c law t r there = ∥∥₁_elim law.table le_prop (λ table. short table)
   where
-    short : IsLawfulTable c.program c.input c.table → length r.path ≤ DEPTH
+    short : IsLawfulTable c.program c.input c.table → length r.path ≤ suc DEPTH
     short table =
-        let h = table.there t r there in
+        let h = table.rows.there t r there in
         let long : length r.path ≡ length h.0 = ap length h.1 ∙ map_long h.0 in
-        let low = there_short DEPTH _ h.0 h.2 in
+        let low = there_short (suc DEPTH) _ h.0 h.2 in
         omega (arith, long, low)
 
 depth_is : (c : CoreState) (t : ℕ) (r : TaskRow) → slice_get c.table.tasks t ≡ Some r → depth_at t c ≡ length r.path
@@ -133,7 +133,7 @@ depth_is c t r there = ap depth_of there
 
 -- one step down
 pub step_down : (c : CoreState) (t k : ℕ) → IsLawfulState c → IsFirst t c → ((r : TaskRow) → slice_get c.table.tasks t ≡ Some r → Some k ≡ open_child r c.table.tasks)
-    → IsFirst k c × (DEPTH - depth_at k c < DEPTH - depth_at t c)
+    → IsFirst k c × (suc DEPTH - depth_at k c < suc DEPTH - depth_at t c)
 step_down c t k law first child =
     let r = row_there c.table.tasks t first.there in
     let f = first_child r.0 k c.table.tasks (sym (child r.0 r.1)) in

@@ -1,6 +1,6 @@
 -- What a claim or a finish makes of a simulated run.
 use Rattle.std.proofs.Common.{◌≡◌, ◌<◌, ℕ, zero, suc, Bool, true, false, cond, ◌||◌, List, [], ◌∷◌, length, Option, Some, None, refl, sym, ap, ◌∙◌, subst, arith, slice_get, length-set}
-use Rattle.kt_tables.specs.Tables.{TaskRow, CoreState}
+use Rattle.kt_tables.specs.Tables.{TaskRow, CoreState, no_loop}
 use Rattle.kt_tables.specs.TableEvents.{task_of, is_unclaimed, is_ended, is_looping, wants, refusal, refusal_at, refusal_of, in_phase, with_row, after_at, state_after}
 use Rattle.kt_tables.specs.declared.events.Event.{Event}
 use Rattle.kt_tables.specs.declared.events.Event.TheVariants as E
@@ -46,6 +46,7 @@ module _ (c : CoreState) (t : ℕ) (r : TaskRow) (phase : Phase) (there : slice_
   sound_entered : IsSound (entered c t phase r)
   sound_entered = record {
     only = calm.sound.only;
+    bare = each_set (λ k u. u.loop ≡ no_loop) c.table.tasks t (in_phase phase r) (λ k u d e. calm.sound.bare k u e) (calm.sound.bare t r there);
     calls = each_set (λ k u. IsTaskCall c.program u.call) c.table.tasks t (in_phase phase r) (λ k u d e. calm.sound.calls k u e) (calm.sound.calls t r there);
     full = calm.sound.full;
   }

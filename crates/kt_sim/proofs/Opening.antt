@@ -6,24 +6,12 @@ use Rattle.kt_prog.specs.Accepted.{IsAccepted}
 use Rattle.kt_prog.specs.Bodies.{index_in, task_at}
 use Rattle.kt_prog.specs.Fits.{is_main}
 use Rattle.kt_prog.specs.Objects.{inputs_of}
-use Rattle.kt_prog.specs.Operations.{is_loop_at}
 use Rattle.kt_prog.specs.declared.programs.Program.{Program}
 use Rattle.kt_prog.proofs.LastWriter.{opened_length}
 use Rattle.kt_frames.specs.OnlyTasks.{HasOnlyTasks}
-use Rattle.kt_frames.proofs.Turns.{no_loop}
-use Rattle.kt_tables.specs.Tables.{TaskRow, CoreState, opening_state, fresh_row}
-use Rattle.kt_tables.specs.TableLaws.{HasNoLoops}
+use Rattle.kt_tables.specs.Tables.{TaskRow, CoreState, no_loop, opening_state, fresh_row}
 use Rattle.kt_sim.specs.Simulated.{IsTaskCall, IsStill, IsCalm}
 use Rattle.kt_prog.specs.Calls.{main_call}
-
--- a program of tasks alone declares no loop
-pub no_loops : (p : Program) → IsAccepted p → HasOnlyTasks p → HasNoLoops p
-no_loops p ok only zero = refl
-no_loops p ok only (suc k) = chosen (nat_lt k DEFINITIONS) refl
-  where
-    chosen : (b : Bool) → nat_lt k DEFINITIONS ≡ b → is_loop_at p (suc k) ≡ false
-    chosen true is = let low : suc k ≤ DEFINITIONS = grind (arith, nat_tests) in no_loop p ok only (suc k) low
-    chosen false is = ap (λ (b : Bool). if b then is_some (index_in (task_at p.tasks k)) else false) is
 
 pub calm_opening : (p : Program) (input : List ℕ) (c : CoreState) → HasOnlyTasks p → length input ≡ inputs_of p.families → c ≡ opening_state p input → IsCalm c
 calm_opening p input c only whole same =
@@ -31,6 +19,7 @@ calm_opening p input c only whole same =
     let calm : IsCalm (opening_state p input) = record {
       sound = record {
         only = only;
+        bare = λ t r e. subst (λ (u : TaskRow). u.loop ≡ no_loop) (main t r e) refl;
         calls = λ t r e. subst (λ (u : TaskRow). IsTaskCall p u.call) (main t r e) (record { fits = is_main refl; no_kernel = omega arith });
         full = opened_length p.families input whole;
       };

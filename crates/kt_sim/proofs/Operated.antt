@@ -22,7 +22,7 @@ use Rattle.kt_prog.proofs.Rightful.{next_is_rightful}
 use Rattle.kt_frames.specs.OnlyTasks.{HasOnlyTasks}
 use Rattle.kt_frames.proofs.Forking.{Free}
 use Rattle.kt_frames.proofs.TaskBodies.{NoKernel, forks_no_kernel}
-use Rattle.kt_tables.specs.Tables.{TaskRow, CoreState, fresh_row, next_child}
+use Rattle.kt_tables.specs.Tables.{TaskRow, CoreState, fresh_row, next_child, no_loop}
 use Rattle.kt_tables.specs.TableEvents.{CanAsk, FindsRoom, IsDue, row_after, store_after, added_by, after_at, Finds, state_after}
 use Rattle.kt_tables.specs.declared.events.Event.TheVariants as E
 use Rattle.kt_sim.specs.declared.operations.Simulation.{Simulation}
@@ -195,6 +195,14 @@ after_op c t r op = record {
 pub is_after : (c : CoreState) (t : ℕ) (r : TaskRow) (op : Operation) → slice_get c.table.tasks t ≡ Some r → state_after (E.Body t op) c ≡ after_op c t r op
 is_after c t r op there = ap (λ (o : Option TaskRow). let x : CoreState = record { program = c.program; input = c.input; table = after_at c.program (E.Body t op) o c.table } in x) there
 
+loop_kept : (op : Operation) (r : TaskRow) → (row_after op r).loop ≡ r.loop
+loop_kept (O.Fork call) r = refl
+loop_kept (O.Load object element a) r = refl
+loop_kept (O.Store object element v) r = refl
+loop_kept (O.Fold object element f v) r = refl
+loop_kept O.End r = refl
+loop_kept (O.Fault law line) r = refl
+
 module _ (c : CoreState) (t : ℕ) (r : TaskRow) (op : Operation) (there : slice_get c.table.tasks t ≡ Some r) where
   abbrev rows : List TaskRow
   rows = slice_set c.table.tasks t (row_after op r) ++ added_by op r c.table.tasks
@@ -229,6 +237,7 @@ module _ (c : CoreState) (t : ℕ) (r : TaskRow) (op : Operation) (there : slice
       let is : IsTaskCall c.program r.call = sound.calls t r there in
       record {
         only = sound.only;
+        bare = each_row (λ k u. u.loop ≡ no_loop) (λ k u e d. sound.bare k u e) (loop_kept op r ∙ sound.bare t r there) (λ child e k. refl);
         calls = each_row (λ k u. IsTaskCall c.program u.call) (λ k u e d. sound.calls k u e) (subst (IsTaskCall c.program) (sym same) is)
             (λ child e k. forks_task c.program ok sound.only r.call is r.answers r.done child (subst (IsNext c.program (Whole r.call) r.answers r.done) e next));
         full = store_long c.program op c.table.store ∙ sound.full;

@@ -1,13 +1,13 @@
 -- The turns of a simulated run.
-use Rattle.std.proofs.Common.{◌≡◌, ◌<◌, ℕ, Bool, true, false, not, cond, ◌||◌, List, Option, Some, None, Result, Ok, refl, sym, ap, ◌∙◌, subst, arith, slice_get, option_map}
-use Rattle.kt_tables.specs.Tables.{TaskRow, CoreState, is_finished, open_before, open_child}
-use Rattle.kt_tables.specs.TableEvents.{is_unclaimed, is_ended, is_looping, wants, refusal, refusal_at}
+use Rattle.std.proofs.Common.{◌≡◌, ◌<◌, ℕ, Bool, true, false, not, cond, ◌||◌, nat_lt, List, Option, Some, None, Result, Ok, refl, sym, ap, ◌∙◌, subst, arith, slice_get, option_map}
+use Rattle.kt_tables.specs.Tables.{LoopPart, TaskRow, CoreState, no_loop, is_finished, open_before, open_child}
+use Rattle.kt_tables.specs.TableEvents.{is_unclaimed, is_ended, is_looping, wants, unless, or_else, refusal, refusal_at}
 use Rattle.kt_tables.specs.declared.events.Event.TheVariants as E
 use Rattle.kt_tables.specs.declared.events.Phase.{Phase}
 use Rattle.kt_tables.specs.declared.events.Phase.TheVariants as P
 use Rattle.kt_tables.specs.declared.events.Why.TheVariants as W
 use Rattle.kt_sim.specs.declared.operations.Stop.{Stop}
-use Rattle.kt_sim.specs.Simulated.{IsCalm, GoesOn, IsInPhase, ranks}
+use Rattle.kt_sim.specs.Simulated.{EachRow, IsCalm, GoesOn, IsInPhase, ranks}
 use Rattle.kt_sim.specs.Turns.{IsFree, IsFreeIn, IsFirst, Tries, left_in}
 use Rattle.kt_sim.proofs.Rows.{ranks_most}
 use Rattle.kt_sim.proofs.Events.{row_there}
@@ -47,7 +47,7 @@ free_here c t phase first is e = record {
 abbrev IsPhase : CoreState → ℕ → Phase → Type 0
 IsPhase c t phase = (r : TaskRow) → slice_get c.table.tasks t ≡ Some r → phase ≡ r.phase
 
-module _ (c : CoreState) (t : ℕ) (phase : Phase) (h : IsFree t c) (is : IsPhase c t phase) where
+module _ (c : CoreState) (bare : EachRow (λ t r. r.loop ≡ no_loop) c.table.tasks) (t : ℕ) (phase : Phase) (h : IsFree t c) (is : IsPhase c t phase) where
   abbrev at : (r : TaskRow) × (slice_get c.table.tasks t ≡ Some r)
   at = row_there c.table.tasks t h.there
 
@@ -69,10 +69,12 @@ module _ (c : CoreState) (t : ℕ) (phase : Phase) (h : IsFree t c) (is : IsPhas
   finish_at : (wanted : Phase) → phase ≡ wanted → (is_ended wanted || is_looping wanted) ≡ true → open_child at.0 c.table.tasks ≡ None
       → refusal (E.Finish t) c.table ≡ None
   finish_at wanted e test none =
+      let left = λ (k : LoopPart). unless (not (nat_lt 0 k.unretired)) (W.Left k.unretired) in
       ap (λ (o : Option TaskRow). refusal_at (E.Finish t) o c.table.tasks) at.1
-      ∙ ap (λ (ph : Phase). wants (λ ph'. is_ended ph' || is_looping ph') ph (option_map W.Child (open_child at.0 c.table.tasks))) (in_row wanted e)
-      ∙ ap (λ (b : Bool). cond b (option_map W.Child (open_child at.0 c.table.tasks)) (Some (W.Found wanted))) test
-      ∙ ap (λ (o : Option ℕ). option_map W.Child o) none
+      ∙ ap (λ (ph : Phase). wants (λ ph'. is_ended ph' || is_looping ph') ph (or_else (option_map W.Child (open_child at.0 c.table.tasks)) (left at.0.loop))) (in_row wanted e)
+      ∙ ap (λ (b : Bool). cond b (or_else (option_map W.Child (open_child at.0 c.table.tasks)) (left at.0.loop)) (Some (W.Found wanted))) test
+      ∙ ap (λ (o : Option ℕ). or_else (option_map W.Child o) (left at.0.loop)) none
+      ∙ ap left (bare t at.0 at.1)
 
   pub free_ended : phase ≡ P.Ended → refusal (E.Finish t) c.table ≡ None
   free_ended e = finish_at P.Ended e refl (free_of P.Ended e)

@@ -11,7 +11,7 @@ use Rattle.kt_prog.specs.declared.runs.Operation.TheVariants as O
 use Rattle.kt_body.specs.declared.ops.Ended.{Ended}
 use Rattle.kt_body.specs.declared.ops.Ended.TheVariants as D
 use Rattle.kt_frames.specs.OnlyTasks.{HasOnlyTasks}
-use Rattle.kt_tables.specs.Tables.{TaskRow, CoreState}
+use Rattle.kt_tables.specs.Tables.{TaskRow, CoreState, no_loop}
 use Rattle.kt_tables.specs.TableEvents.{Finds}
 use Rattle.kt_tables.specs.declared.events.Phase.{Phase}
 use Rattle.kt_tables.specs.declared.events.Phase.TheVariants as P
@@ -37,9 +37,10 @@ is_before_end _ = false
 abbrev pub IsStill : TaskRow → Type 0
 IsStill r = is_before_end r.phase ≡ true → (r.answers ≡ []) × (r.done ≡ 0)
 
--- the program is one of tasks alone, and the store has all elements
+-- the program is one of tasks alone, so no task has indexes, and the store has all elements
 pub record IsSound (c : CoreState) : Type 0 where
   pub only : HasOnlyTasks c.program
+  pub bare : EachRow (λ t r. r.loop ≡ no_loop) c.table.tasks
   pub calls : EachRow (λ t r. IsTaskCall c.program r.call) c.table.tasks
   pub full : length c.table.store ≡ elements_of c.program.families
 

@@ -1,6 +1,8 @@
 // The least fault of a run.
 ghost use Rattle.std.specs.Prelude.{◌≡◌, None};
 ghost use Rattle.kt_tables.specs.TableLaws.{faults_in};
+ghost use Rattle.kt_tables.specs.Tables.{no_loop};
+ghost use Rattle.kt_sim.specs.Simulated.{EachRow};
 ghost use Rattle.kt_sim.specs.Answering.{least_with, lesser};
 
 use kt_core::Core;
@@ -23,8 +25,9 @@ fn least_of(least: Option<FaultAt>, fault: Option<FaultAt>) -> Option<FaultAt>
     }
 }
 
-/// The least fault of all tasks.
+/// The least fault of all tasks, none of which has indexes.
 pub fn least_fault(core: &Core) -> Option<FaultAt>
+    requires { EachRow (λ t r. r.loop ≡ no_loop) core.now.table.tasks }
     ensures { result ≡ least_with None (faults_in core.now.program core.now.table.tasks) }
 {
     let mut least = None;

@@ -34,6 +34,6 @@ IsPlain (E.ClaimInOrder t) = Unit {0}
 IsPlain (E.ClaimReady t) = Unit {0}
 IsPlain (E.Split t at) = Unit {0}
 IsPlain (E.Take t at n) = Unit {0}
-IsPlain (E.Index t i operation) = Unit {0}
+IsPlain (E.Index t i operation) = ⊥
 IsPlain (E.Retire t n) = Unit {0}
 IsPlain (E.Finish t) = Unit {0}

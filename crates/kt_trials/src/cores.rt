@@ -4,8 +4,7 @@ ghost use Rattle.kt_prog.specs.Accepted.{IsAccepted};
 use crate::driven::{ask, main_has_run};
 use crate::jobs::opened;
 use kt_core::{Core, Event, Phase, Why};
-use kt_frames::has_only_tasks;
-use kt_prog::{Operation, Program, inputs, laws};
+use kt_prog::{Program, inputs, laws};
 use std::alloc::Global;
 use std::process::Abort;
 use std::test::Fail;
@@ -18,8 +17,6 @@ fn begun<'a>(rt: &impl Abort, alloc: Global, program: &'a Program) -> Result<Cor
     requires { IsAccepted program.now }
 {
     laws::few_objects();
-    let only = has_only_tasks(program);
-    assert!(rt; only);
     let wanted = inputs(program);
     assert!(rt; wanted == 0);
     let core = Core::new(alloc, program, &[])?;
@@ -38,7 +35,6 @@ fn tasks_that_clash_wait(rt: HostRuntime) -> Result<(), Fail> {
     assert!(rt; ask(&rt, core, &Event::ClaimInOrder(2)) == Err(Why::Earlier(1)));
     assert!(rt; ask(&rt, core, &Event::Split(1, 1)) == waits);
     assert!(rt; ask(&rt, core, &Event::Take(1, 0, 1)) == waits);
-    assert!(rt; ask(&rt, core, &Event::Index(1, 0, Operation::End)) == waits);
     assert!(rt; ask(&rt, core, &Event::Retire(0, 1)) == Err(Why::Found(Phase::Ended)));
     assert!(rt; ask(&rt, core, &Event::ClaimInOrder(1)) == Ok(()));
     assert!(rt; ask(&rt, core, &Event::ClaimReady(3)) == Err(Why::Clash(1)));

@@ -1,13 +1,13 @@
 // The events of a core, one kind a function.
-ghost use Rattle.std.specs.Prelude.{◌≡◌, ◌<◌, IfErr, IfOk, None, Some, length, slice_get};
-ghost use Rattle.kt_tables.specs.Tables.{TaskRow};
+ghost use Rattle.std.specs.Prelude.{◌≡◌, IfErr, IfOk};
 ghost use Rattle.kt_prog.specs.Next.{IsOnElement};
-ghost use Rattle.kt_core.specs.Steps.{EventsKeepStatesLawful, Goes, IsNoFork, Steps, acted};
-ghost use Rattle.kt_tables.specs.TableEvents.{CanAsk, Replies, is_looping, refusal, state_after, wants};
+ghost use Rattle.kt_core.specs.Steps.{EventsKeepStatesLawful, Goes, IsClosed, IsNoFork, Steps, acted};
+ghost use Rattle.kt_tables.specs.TableEvents.{CanAsk, Replies, refusal, state_after};
 ghost use Rattle.kt_tables.specs.declared.events.Event.TheVariants as event_is;
 ghost use Rattle.kt_prog.specs.declared.runs.Operation.TheVariants as operation_is;
 
 use crate::links::add_child;
+use crate::parts::Part;
 use crate::rows::Row;
 use crate::running::Core;
 use kt_prog::laws::{next_is_on_element, next_is_rightful};
@@ -29,12 +29,11 @@ impl<'a> Core<'a> {
             Event::ClaimInOrder(task) => self.claim_in_order(*task),
             Event::ClaimReady(task) => self.claim_ready(*task),
             Event::Body(task, operation) => self.body(*task, operation),
-            // no task is a loop
-            Event::Begin(_) => unreachable!(),
-            Event::Split(task, _) => self.of_loop(*task),
-            Event::Take(task, _, _) => self.of_loop(*task),
-            Event::Index(task, _, _) => self.of_loop(*task),
-            Event::Retire(task, _) => self.of_loop(*task),
+            Event::Begin(task) => self.begin(*task),
+            Event::Split(task, at) => self.split(*task, *at),
+            Event::Take(task, at, count) => self.take(*task, *at, *count),
+            Event::Index(task, index, operation) => self.index(*task, *index, operation),
+            Event::Retire(task, count) => self.retire(*task, *count),
             Event::Finish(task) => self.finish(*task),
         }
     }
@@ -87,31 +86,124 @@ impl<'a> Core<'a> {
         }
         match self.open_child(task) {
             Some(child) => Err(Why::Child(child)),
-            None => {
-                self.is_lawful();
-                events_keep_states_lawful();
-                self.put_phase(task, Phase::Finished);
-                self.settle(task);
-                Ok(())
-            }
+            None => self.close(task),
         }
+    }
+
+    /// The finish of a task that has ended and whose children are finished.
+    fn close(&mut self, task: u32) -> Result<(), Why>
+        requires can { CanAsk self.old.program (event_is.Finish task) self.old.table }
+        requires closed { IsClosed task self.old.table.tasks }
+        ensures { Steps (event_is.Finish task) self.old self.new result }
+    {
+        let left = self.rows[task as usize].unretired();
+        if left > 0 {
+            return Err(Why::Left(left));
+        }
+        self.is_lawful();
+        events_keep_states_lawful();
+        self.put_phase(task, Phase::Finished);
+        self.settle(task);
+        Ok(())
     }
 }
 
 impl<'a> Core<'a> {
-    /// What an event of a loop is answered, which does nothing, since no task loops.
-    fn of_loop(&self, task: u32) -> Result<(), Why>
-        requires { task < length self.now.table.tasks }
-        ensures { (r : TaskRow) → slice_get self.now.table.tasks task ≡ Some r → Replies (wants is_looping r.phase None) result }
+    fn begin(&mut self, task: u32) -> Result<(), Why>
+        requires { CanAsk self.old.program (event_is.Begin task) self.old.table }
+        ensures { Steps (event_is.Begin task) self.old self.new result }
     {
         let phase = self.phase(task);
-        if phase.is_looping() {
-            Ok(())
-        } else {
-            Err(Why::Found(phase))
+        if !phase.is_running() {
+            return Err(Why::Found(phase));
+        }
+        events_keep_states_lawful();
+        let length = self.rows[task as usize].length();
+        match Part::whole(self.alloc, length) {
+            Ok(part) => {
+                self.rows[task as usize].begin(part);
+                Ok(())
+            }
+            Err(_) => Err(Why::NoMemory),
         }
     }
 
+    fn split(&mut self, task: u32, at: u32) -> Result<(), Why>
+        requires { CanAsk self.old.program (event_is.Split task at) self.old.table }
+        ensures { Steps (event_is.Split task at) self.old self.new result }
+    {
+        let phase = self.phase(task);
+        if !phase.is_looping() {
+            return Err(Why::Found(phase));
+        }
+        if !self.rows[task as usize].has_inside(at) {
+            return Err(Why::NoPiece);
+        }
+        events_keep_states_lawful();
+        match self.rows[task as usize].split(at) {
+            Ok(()) => {}
+            Err(_) => return Err(Why::NoMemory),
+        }
+        Ok(())
+    }
+
+    fn take(&mut self, task: u32, at: u32, count: u32) -> Result<(), Why>
+        requires { CanAsk self.old.program (event_is.Take task at count) self.old.table }
+        ensures { Steps (event_is.Take task at count) self.old self.new result }
+    {
+        let phase = self.phase(task);
+        if !phase.is_looping() {
+            return Err(Why::Found(phase));
+        }
+        if count == 0 || !self.rows[task as usize].can_take(at, count) {
+            return Err(Why::NoPiece);
+        }
+        events_keep_states_lawful();
+        self.rows[task as usize].take(at, count);
+        Ok(())
+    }
+
+    fn index(&mut self, task: u32, index: u32, operation: &Operation) -> Result<(), Why>
+        requires { CanAsk self.old.program (event_is.Index task index operation.now) self.old.table }
+        ensures { Steps (event_is.Index task index operation.now) self.old self.new result }
+    {
+        let phase = self.phase(task);
+        if !phase.is_looping() {
+            return Err(Why::Found(phase));
+        }
+        if !self.rows[task as usize].is_under_way(index) {
+            return Err(Why::NotTaken(index));
+        }
+        events_keep_states_lawful();
+        next_is_on_element();
+        match self.rows[task as usize].go_on_index(index, operation) {
+            Ok(()) => {
+                act(&mut self.store, operation);
+                Ok(())
+            }
+            Err(_) => Err(Why::NoMemory),
+        }
+    }
+
+    fn retire(&mut self, task: u32, count: u32) -> Result<(), Why>
+        requires { CanAsk self.old.program (event_is.Retire task count) self.old.table }
+        ensures { Steps (event_is.Retire task count) self.old self.new result }
+    {
+        let phase = self.phase(task);
+        if !phase.is_looping() {
+            return Err(Why::Found(phase));
+        }
+        let ended = self.rows[task as usize].ended();
+        if count == 0 || ended < count {
+            return Err(Why::NotEnded(ended));
+        }
+        events_keep_states_lawful();
+        self.rows[task as usize].retire(count);
+        Ok(())
+    }
+}
+
+impl<'a> Core<'a> {
     fn body(&mut self, task: u32, operation: &Operation) -> Result<(), Why>
         requires { CanAsk self.old.program (event_is.Body task operation.now) self.old.table }
         ensures { Steps (event_is.Body task operation.now) self.old self.new result }

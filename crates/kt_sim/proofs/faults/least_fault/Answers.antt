@@ -14,4 +14,4 @@ loop-task-preserved c =
     let r = row_there tasks k below in
     let next : k + 1 ≡ suc k = omega arith in
     ap (λ o. least_with o (faults_in p (drop (k + 1) tasks))) (c.least_of-least.ensures ∙ ap (lesser c.loop-task.least) (c.fault.ensures r.0 r.1))
-    ∙ least_step p tasks k (k + 1) r.0 c.loop-task.least next r.1 ∙ c.loop-task.invariant
+    ∙ least_step p tasks k (k + 1) r.0 c.loop-task.least next (c.requires k r.0 r.1) r.1 ∙ c.loop-task.invariant

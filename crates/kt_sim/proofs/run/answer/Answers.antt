@@ -2,7 +2,7 @@
 use Rattle.std.proofs.Common.{◌≡◌, ℕ, List, length, Option, ap, sym, ◌∙◌}
 use Rattle.kt_prog.specs.Runs.{FaultRun}
 use Rattle.kt_prog.specs.declared.runs.Outcome.TheVariants as N
-use Rattle.kt_sim.proofs.LeastFaults.{answer_is, or_rows, ran_with}
+use Rattle.kt_sim.proofs.LeastFaults.{answer_is, no_indexes, or_rows, ran_with}
 use Rattle.kt_sim.proofs.run.answer.Goals as goal
 
 pub returns-in-Some-clause-ran : goal.returns-in-Some-clause-ran
@@ -10,7 +10,7 @@ returns-in-Some-clause-ran c =
     let o = c.args.core.now in
     ap (λ (n : ℕ). ran_with n (N.Fault c.in-Some.fault)) c.tasks-tasks.ensures
     ∙ ap (λ (f : Option FaultRun). ran_with (length o.table.tasks) (or_rows o.table.store f)) (sym c.in-Some.is)
-    ∙ answer_is o c.least_fault.result c.requires.calm.few c.least_fault.ensures c.gives_outcome.ensures
+    ∙ answer_is o c.least_fault.result c.requires.calm.few c.least_fault.ensures (no_indexes o.table.tasks c.requires.calm.sound.bare) c.gives_outcome.ensures
 
 pub returns-in_ok-from_slice-in-None-clause-ran : goal.returns-in_ok-from_slice-in-None-clause-ran
 returns-in_ok-from_slice-in-None-clause-ran c =
@@ -19,4 +19,4 @@ returns-in_ok-from_slice-in-None-clause-ran c =
     ap (λ (n : ℕ). ran_with n (N.Rows c.from_vec-rows.result)) c.tasks-tasks.ensures
     ∙ ap (λ (xs : List ℕ). ran_with (length o.table.tasks) (N.Rows xs)) rows
     ∙ ap (λ (f : Option FaultRun). ran_with (length o.table.tasks) (or_rows o.table.store f)) (sym c.in-None.is)
-    ∙ answer_is o c.least_fault.result c.requires.calm.few c.least_fault.ensures c.gives_outcome.ensures
+    ∙ answer_is o c.least_fault.result c.requires.calm.few c.least_fault.ensures (no_indexes o.table.tasks c.requires.calm.sound.bare) c.gives_outcome.ensures

@@ -1,8 +1,5 @@
-use Rattle.kt_sim.proofs.Opening.{no_loops, calm_opening}
+use Rattle.kt_sim.proofs.Opening.{calm_opening}
 use Rattle.kt_sim.proofs.run.simulate.Goals as goal
-
-pub new-requires-clause-loops : goal.new-requires-clause-loops
-new-requires-clause-loops c = no_loops c.args.program.now c.requires.accepted c.requires.tasks
 
 pub run_all-requires-clause-calm : goal.run_all-requires-clause-calm
 run_all-requires-clause-calm c =

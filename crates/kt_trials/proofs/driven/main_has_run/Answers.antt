@@ -5,7 +5,7 @@ use Rattle.kt_prog.specs.Fits.{is_main}
 use Rattle.kt_prog.specs.declared.runs.Operation.TheVariants as O
 use Rattle.kt_tables.specs.TableEvents.{state_after}
 use Rattle.kt_tables.specs.declared.events.Event.TheVariants as E
-use Rattle.kt_trials.proofs.Driven.{can_ask_body, end_due, main_stands}
+use Rattle.kt_trials.proofs.Driving.{can_ask_body, end_due, main_stands}
 use Rattle.kt_trials.proofs.driven.main_has_run.Goals as goal
 
 pub run_body-requires-clause-begins : goal.run_body-requires-clause-begins

@@ -15,7 +15,7 @@ invariant_of-result c =
     let links : c.push-2.new.self.items ≡ fresh_links None ∷ [] =
     c.in_ok-push-2.ensures.items ∙ ap (λ (xs : List LinkState). xs ++ c.new-3.result ∷ []) c.new-links.ensures.items ∙ ap (λ (l : LinkState). l ∷ []) c.new-3.ensures in
     let is = opened_is c.args.program.now c.args.input.now c.in_ok-store.store c.push.new.self.items c.in_ok-store.ensures rows in
-    let sound = opening_sound c.opening_table_is_lawful.ensures c.args.program.now c.args.input.now c.requires.accepted c.requires.loops c.requires.whole in
+    let sound = opening_sound c.opening_table_is_lawful.ensures c.args.program.now c.args.input.now c.requires.accepted c.requires.whole in
     subst (λ (s : CoreState). IsSound s c.push-2.new.self.items) (sym is)
     (subst (IsSound (opening_state c.args.program.now c.args.input.now)) (sym links) sound)
 

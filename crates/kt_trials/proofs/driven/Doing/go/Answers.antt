@@ -3,7 +3,7 @@ use Rattle.std.proofs.Common.{◌≡◌, ◌+◌, ◌++◌, sym, subst}
 use Rattle.kt_prog.specs.Operations.{heard}
 use Rattle.kt_trials.specs.Driven.{StandsAt}
 use Rattle.kt_tables.specs.Tables.{CoreState}
-use Rattle.kt_trials.proofs.Driven.{stands_after}
+use Rattle.kt_trials.proofs.Driving.{stands_after}
 use Rattle.kt_trials.proofs.driven.Doing.go.Goals as goal
 
 pub returns-in-Ok : goal.returns-in-Ok

@@ -4,7 +4,7 @@ use Rattle.kt_prog.specs.Calls.{CallTree}
 use Rattle.kt_prog.specs.declared.runs.Operation.TheVariants as O
 use Rattle.kt_trials.specs.Driven.{CanGo}
 use Rattle.kt_runs.specs.States.{most_tasks}
-use Rattle.kt_trials.proofs.Driven.{can_go}
+use Rattle.kt_trials.proofs.Driving.{can_go}
 use Rattle.kt_trials.proofs.driven.DoingOps.fork.Goals as goal
 
 pub go-requires-clause-can : goal.go-requires-clause-can

@@ -3,7 +3,7 @@ use Rattle.std.proofs.Common.{◌<◌, sym, subst}
 use Rattle.kt_prog.specs.Objects.{objects_of, width_of}
 use Rattle.kt_prog.specs.declared.programs.Program.{Program}
 use Rattle.kt_prog.specs.declared.runs.Operation.TheVariants as O
-use Rattle.kt_trials.proofs.Driven.{can_go}
+use Rattle.kt_trials.proofs.Driving.{can_go}
 use Rattle.kt_trials.proofs.driven.DoingOps.load.Goals as goal
 
 pub value-value-requires-clause-object : goal.value-value-requires-clause-object

@@ -1,6 +1,6 @@
 -- The operation is due.
 use Rattle.kt_prog.specs.declared.runs.Operation.TheVariants as O
-use Rattle.kt_trials.proofs.Driven.{can_go}
+use Rattle.kt_trials.proofs.Driving.{can_go}
 use Rattle.kt_trials.proofs.driven.DoingOps.store.Goals as goal
 
 pub go-requires-clause-can : goal.go-requires-clause-can

@@ -75,7 +75,7 @@ can_ask_plain c (E.ClaimInOrder t) h there = record { there = there; suits = λ 
 can_ask_plain c (E.ClaimReady t) h there = record { there = there; suits = λ r at. tt }
 can_ask_plain c (E.Split t at) h there = record { there = there; suits = λ r e. tt }
 can_ask_plain c (E.Take t at n) h there = record { there = there; suits = λ r e. tt }
-can_ask_plain c (E.Index t i operation) h there = record { there = there; suits = λ r e. tt }
+can_ask_plain c (E.Index t i operation) h there = absurd h
 can_ask_plain c (E.Retire t n) h there = record { there = there; suits = λ r at. tt }
 can_ask_plain c (E.Finish t) h there = record { there = there; suits = λ r at. tt }
 
