@@ -20,24 +20,28 @@ use Rattle.kt_runs.specs.ByPath.{child}
 use Rattle.kt_words.specs.Places.{place, record_word, element_word}
 use Rattle.kt_words.specs.declared.layouts.TheConstants.{RECORDS}
 use Rattle.kt_words.specs.declared.layouts.Layout.{Layout}
+use Rattle.kt_words.specs.declared.states.StateWord.{StateWord}
+use Rattle.kt_words.specs.Words.{IsStateWord, packed_state}
 use Rattle.kt_words.proofs.PlaceLaws.{places_differ}
 use Rattle.kt_rule.specs.declared.views.Setup.{Setup}
 use Rattle.kt_rule.specs.declared.views.Spot.{Spot}
 use Rattle.kt_rule.specs.declared.views.Execution.{Execution}
 use Rattle.kt_rule.specs.declared.views.Promise.{Promise}
+use Rattle.kt_rule.specs.declared.views.Note.{Note}
 use Rattle.kt_rule.specs.declared.views.View.{View}
 use Rattle.kt_rule.specs.Lists.{In, here}
 use Rattle.kt_rule.specs.Lies.{Lies}
 use Rattle.kt_rule.specs.Records.{layout_of, stop_at}
 use Rattle.kt_rule.specs.Facts.{task_in}
 use Rattle.kt_rule.specs.Rule.{Slots, Facts, Holds}
-use Rattle.kt_rule.specs.Steps.{Tells, state_place, state_word, IsState, BeforeKnown, ClaimsOwn, starts_own, ends, heard, does_one, Stands, LoadsStop}
-use Rattle.kt_steps.specs.Told.{IsOwnAt, ShowsOwn, ClaimsOwnAt, ShowsPromised, StartsOwnAt, ShowsRunning, EndsAt, DidNext, DoesNext, StandsAt}
+use Rattle.kt_rule.specs.Steps.{Tells, state_place, state_word, IsState, BeforeKnown, ClaimsOwn, ClaimsFor, IsFound, IsReady, starts_own, starts, ends, heard, does_one, Stands, LoadsStop}
+use Rattle.kt_steps.specs.Told.{IsOwnAt, ShowsOwn, ClaimsOwnAt, ClaimsForAt, ShowsPromised, StartsOwnAt, ShowsGiven, StartsGivenAt, ShowsRunning, EndsAt, DidNext, DoesNext, StandsAt}
 use Rattle.kt_rule.proofs.Moves.{at_below}
+use Rattle.kt_rule.proofs.Words.{state_one}
 use Rattle.kt_steps.proofs.Steps.{inside}
 use Rattle.kt_steps.proofs.Asides.{loads_stop}
-use Rattle.kt_steps.proofs.Claiming.{claims_own, starts_promised, finishes, does}
-use Rattle.kt_steps.proofs.Looks.{looks_own_state, looks_promised_state, looks_running_state, stands_at}
+use Rattle.kt_steps.proofs.Claiming.{claims_own, claims_for, starts_given, starts_promised, finishes, does}
+use Rattle.kt_steps.proofs.Looks.{looks_own_state, looks_given_state, looks_promised_state, looks_running_state, stands_at}
 
 pub the_some : {X : Type 0} → {x y : X} → Some x ≡ Some y → x ≡ y
 the_some h = cc
@@ -102,6 +106,43 @@ module _ (opening : List ℕ) (slots id : ℕ) (me : Me Slots View) (j : Setup) 
         ),
       )
 
+  pub claims_for_at : (own : Note) (ns : List Note) (x : StateWord) (thief i old new : ℕ) → me.0.seen.notes ≡ own ∷ ns → IsFound own
+      → IsReady me.0 own → IsStateWord x → x.stand ≡ S.Unclaimed → own.word ≡ packed_state x → thief < j.workers → thief < 8
+      → i ≡ state_place (layout_of j) own.at → old ≡ packed_state x
+      → new ≡ packed_state (record { frame = x.frame; fork = x.fork; stand = S.Given thief })
+      → Allows (Holds opening) slots id me i (λ n. either (n == old) new n) (Tells ClaimsForAt (step slots i old new none) me)
+  claims_for_at own ns x thief i old new notes found ready fits waits word_is below small i_is old_is new_is s h out at word =
+      let plain : x ≡ record { frame = x.frame; fork = x.fork; stand = S.Unclaimed } =
+      λ q. record { frame = x.frame; fork = x.fork; stand = waits q } in
+      let d = claims_for opening slots id me j own ns thief x.frame x.fork i old new setup notes found ready live below
+      (subst IsStateWord plain fits) (word_is ∙ ap packed_state plain) i_is (old_is ∙ sym word_is) new_is s h out at word in (
+        d.0,
+        d.1,
+        d.2,
+        d.3,
+        (
+          (λ own' ns' notes' y y_fits y_is thief' y_given.
+              let same = state_one (record { frame = x.frame; fork = x.fork; stand = S.Given thief }) y (given_fits x thief fits small) y_fits
+              (sym new_is ∙ y_is) in
+              let thieves = given_one thief thief' (ap (λ (z : StateWord). z.stand) same ∙ y_given) in
+              let both = firsts own own' ns ns' (sym notes ∙ notes') in
+              subst (λ z. ClaimsFor z ns' thief' (step slots i old new none) me.0 (get_or s.words i 0) d.0) both.0
+              (subst (λ z. ClaimsFor own z thief' (step slots i old new none) me.0 (get_or s.words i 0) d.0) both.1
+              (subst (λ z. ClaimsFor own ns z (step slots i old new none) me.0 (get_or s.words i 0) d.0) thieves d.4.0))),
+          d.4.1,
+        ),
+      )
+    where
+      firsts : (a b : Note) (xs ys : List Note) → a ∷ xs ≡ b ∷ ys → (a ≡ b) × (xs ≡ ys)
+      firsts a b xs ys e = (cc, cc)
+
+      given_one : (a b : ℕ) → S.Given a ≡ S.Given b → a ≡ b
+      given_one a b e = cc
+
+      given_fits : (x : StateWord) (k : ℕ) → IsStateWord x → k < 8
+          → IsStateWord (record { frame = x.frame; fork = x.fork; stand = S.Given k })
+      given_fits x k h small = record { frame_fits = h.frame_fits; fork_fits = h.fork_fits; worker_fits = small; blank_if_empty = tt }
+
   pub shows_promised : (m : Promise) (rest : List Promise) (i : ℕ) → me.0.tasks.promised ≡ m ∷ rest
       → i ≡ state_place (layout_of j) m.spot.berth.at → Allows (Holds opening) slots id me i (λ n. n)
       (Tells ShowsPromised (step slots i 0 0 none) me)
@@ -136,6 +177,38 @@ module _ (opening : List ℕ) (slots id : ℕ) (me : Me Slots View) (j : Setup) 
           → starts_own me.0 m rest ≡ starts_own me.0 y.spot ys
       both {y} {ys} e = let x : record { spot = m; thief = me.0.worker } ≡ y = cc in
           let xs : rest ≡ ys = cc in λ i. starts_own me.0 (x i).spot (xs i)
+
+  pub shows_given : (m : Spot) (rest : List Spot) (i : ℕ) → me.0.tasks.given ≡ m ∷ rest
+      → i ≡ state_place (layout_of j) m.berth.at → Allows (Holds opening) slots id me i (λ n. n)
+      (Tells ShowsGiven (step slots i 0 0 none) me)
+  shows_given m rest i given i_is s h out at word =
+      let d = looks_given_state opening slots id me j m i setup live (subst (In m) (sym given) here) i_is s h out at word in (
+        d.0,
+        d.1,
+        d.2,
+        d.3,
+        (
+          (
+            (λ o others too. subst (λ (z : Spot). (b : Stand) × IsState z.berth b × (b ≢ S.Empty)
+                × (get_or s.words i 0 ≡ state_word z.berth b)) (first (sym given ∙ too)) d.4.0.0),
+            d.4.0.1,
+          ),
+          d.4.1,
+        ),
+      )
+    where
+      first : {x y : Spot} → {xs ys : List Spot} → x ∷ xs ≡ y ∷ ys → x ≡ y
+      first e = cc
+
+  pub starts_given_at : (m : Spot) (rest : List Spot) (i new : ℕ) → me.0.tasks.given ≡ m ∷ rest
+      → i ≡ state_place (layout_of j) m.berth.at → new ≡ state_word m.berth (S.Running me.0.worker)
+      → Allows (Holds opening) slots id me i (λ _. new) (λ _. Tells StartsGivenAt (step slots i new 0 none) me new)
+  starts_given_at m rest i new given i_is new_is s h out at word =
+      let d = starts_given opening slots id me j m rest i new setup live given i_is new_is s h out at word in
+      (d.0, d.1, d.2, d.3, ((λ o others too. d.4.0 ∙ both (sym given ∙ too)), d.4.1))
+    where
+      both : {y : Spot} → {ys : List Spot} → m ∷ rest ≡ y ∷ ys → starts me.0 m rest ≡ starts me.0 y ys
+      both {y} {ys} e = let x : m ≡ y = cc in let xs : rest ≡ ys = cc in λ i. starts me.0 (x i) (xs i)
 
   pub shows_running : (e : Execution) (rest : List Execution) (i : ℕ) → me.0.tasks.running ≡ e ∷ rest
       → i ≡ state_place (layout_of j) e.spot.berth.at → Allows (Holds opening) slots id me i (λ n. n)

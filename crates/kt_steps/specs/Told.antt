@@ -15,16 +15,19 @@ use Rattle.kt_prog.specs.Store.{place_of}
 use Rattle.kt_runs.specs.ByPath.{child}
 use Rattle.kt_words.specs.declared.layouts.TheConstants.{RECORDS}
 use Rattle.kt_words.specs.declared.layouts.Layout.{Layout}
+use Rattle.kt_words.specs.declared.states.StateWord.{StateWord}
+use Rattle.kt_words.specs.Words.{IsStateWord, packed_state}
 use Rattle.kt_rule.specs.declared.views.Setup.{Setup}
 use Rattle.kt_rule.specs.declared.views.Spot.{Spot}
 use Rattle.kt_rule.specs.declared.views.Execution.{Execution}
 use Rattle.kt_rule.specs.declared.views.Promise.{Promise}
+use Rattle.kt_rule.specs.declared.views.Note.{Note}
 use Rattle.kt_rule.specs.declared.views.View.{View}
 use Rattle.kt_rule.specs.Lists.{In}
 use Rattle.kt_rule.specs.Records.{layout_of}
 use Rattle.kt_rule.specs.Facts.{task_in}
 use Rattle.kt_rule.specs.Rule.{Slots}
-use Rattle.kt_rule.specs.Steps.{state_place, state_word, IsState, ClaimsOwn, starts_own, ends, does_one, Stands}
+use Rattle.kt_rule.specs.Steps.{state_place, state_word, IsState, ClaimsOwn, ClaimsFor, IsFound, IsReady, starts_own, starts, ends, does_one, Stands}
 
 -- the view of a seat that stands for somebody, in a run with this layout, of this worker
 pub record IsLiveOf (l : Layout) (worker : ℕ) (v : View) : Type 0 where
@@ -47,6 +50,23 @@ ShowsOwn st v n w = ((m : Spot) → IsOwnAt st v m → (b : Stand) × IsState m.
 abbrev pub ClaimsOwnAt : Step Slots → View → ℕ → View → Type 0
 ClaimsOwnAt st v n w = (m : Spot) → IsOwnAt st v m → ClaimsOwn m st v n w
 
+-- the entry that was noted last was claimed for the worker that the new word names, or another word was found
+abbrev pub ClaimsForAt : Step Slots → View → ℕ → View → Type 0
+ClaimsForAt st v n w = (own : Note) (ns : List Note) → v.seen.notes ≡ own ∷ ns → (x : StateWord) → IsStateWord x → st.second ≡ packed_state x
+    → (thief : ℕ) → x.stand ≡ S.Given thief → ClaimsFor own ns thief st v n w
+
+-- the entry of the record with this number was noted last, unclaimed in this state, and by the notes it is ready
+pub record IsNotedReady (v : View) (at : ℕ) (x : StateWord) : Type 0 where
+  pub own : Note
+  pub rest : List Note
+  pub notes : v.seen.notes ≡ own ∷ rest
+  pub lies : own.at ≡ at
+  pub found : IsFound own
+  pub ready : IsReady v own
+  pub fits : IsStateWord x
+  pub waits : x.stand ≡ S.Unclaimed
+  pub word : own.word ≡ packed_state x
+
 -- the state of the first promised task was found
 abbrev pub ShowsPromised : Step Slots → View → ℕ → View → Type 0
 ShowsPromised st v n w = ((m : Promise) (rest : List Promise) → v.tasks.promised ≡ m ∷ rest
@@ -55,6 +75,15 @@ ShowsPromised st v n w = ((m : Promise) (rest : List Promise) → v.tasks.promis
 -- it was begun
 abbrev pub StartsOwnAt : Step Slots → View → ℕ → View → Type 0
 StartsOwnAt st v n w = (m : Promise) (rest : List Promise) → v.tasks.promised ≡ m ∷ rest → w ≡ starts_own v m.spot rest
+
+-- the state of the first given task was found
+abbrev pub ShowsGiven : Step Slots → View → ℕ → View → Type 0
+ShowsGiven st v n w = ((m : Spot) (rest : List Spot) → v.tasks.given ≡ m ∷ rest
+    → (b : Stand) × IsState m.berth b × (b ≢ S.Empty) × (n ≡ state_word m.berth b)) × (w ≡ v)
+
+-- it was begun
+abbrev pub StartsGivenAt : Step Slots → View → ℕ → View → Type 0
+StartsGivenAt st v n w = (m : Spot) (rest : List Spot) → v.tasks.given ≡ m ∷ rest → w ≡ starts v m rest
 
 -- the state of the running body's task was found
 abbrev pub ShowsRunning : Step Slots → View → ℕ → View → Type 0

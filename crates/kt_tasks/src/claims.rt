@@ -2,8 +2,8 @@
 //!
 //! A claim is a fetch-and-compare: several workers may try it, and the state
 //! word decides. A start and a finish are stores: the task is one worker's by
-//! then, and nobody else may write its state. All three load the word first,
-//! for the frame and the fork that it keeps.
+//! then, and nobody else may write its state. They load the word first, for the
+//! frame and the fork that it keeps; a claim for a thief has noted it.
 ghost use Rattle.std.specs.Prelude.{◌≡◌, ◌≢◌, ℕ, ◌*◌, ◌<◌, [], ◌∷◌, List};
 ghost use mathlib.Core.Option.{some};
 ghost use lib.ListN.{get_elem?};
@@ -14,13 +14,13 @@ ghost use Rattle.kt_prog.specs.Reference.{machine_of};
 ghost use Rattle.kt_runs.specs.ByPath.{child};
 ghost use Rattle.kt_rule.specs.Facts.{task_in};
 ghost use Rattle.kt_rule.specs.Lists.{In};
-ghost use Rattle.kt_rule.specs.Steps.{BeforeKnown, Tells, ends, starts_own, won_own};
+ghost use Rattle.kt_rule.specs.Steps.{BeforeKnown, Tells, ends, starts, starts_own, won_own};
 ghost use Rattle.kt_rule.specs.declared.views.Execution.{Execution};
 ghost use Rattle.kt_rule.specs.declared.views.Promise.{Promise};
 ghost use Rattle.kt_rule.specs.declared.views.Spot.{Spot};
-ghost use Rattle.kt_steps.specs.Told.{ClaimsOwnAt, EndsAt, IsEnded, IsLiveOf, IsMine, ShowsOwn, ShowsPromised, ShowsRunning, StartsOwnAt};
+ghost use Rattle.kt_steps.specs.Told.{ClaimsForAt, ClaimsOwnAt, EndsAt, IsEnded, IsLiveOf, IsMine, IsNotedReady, ShowsGiven, ShowsOwn, ShowsPromised, ShowsRunning, StartsGivenAt, StartsOwnAt};
 ghost use Rattle.kt_tasks.specs.declared.states.Claim.TheVariants as C;
-ghost use Rattle.kt_tasks.specs.Claims.{Claimed};
+ghost use Rattle.kt_tasks.specs.Claims.{Claimed, ClaimedFor};
 ghost use Rattle.kt_words.specs.Words.{IsStateWord, packed_state};
 ghost use Rattle.kt_words.specs.declared.layouts.TheConstants.{RECORDS};
 
@@ -43,6 +43,12 @@ impl Play<(), View> for ClaimingOwn {
     ghost then = { Tells ClaimsOwnAt };
 }
 
+struct ClaimingFor;
+
+impl Play<(), View> for ClaimingFor {
+    ghost then = { Tells ClaimsForAt };
+}
+
 struct LookingPromised;
 
 impl Play<(), View> for LookingPromised {
@@ -53,6 +59,18 @@ struct Starting;
 
 impl Play<(), View> for Starting {
     ghost then = { Tells StartsOwnAt };
+}
+
+struct LookingGiven;
+
+impl Play<(), View> for LookingGiven {
+    ghost then = { Tells ShowsGiven };
+}
+
+struct StartingGiven;
+
+impl Play<(), View> for StartingGiven {
+    ghost then = { Tells StartsGivenAt };
 }
 
 struct LookingRunning;
@@ -105,6 +123,52 @@ pub fn start(t: &RunTable, s: &mut Seat, at: u32)
         stand: Stand::Running(s.worker),
     });
     t.table.shared.store::<Starting>(&mut s.token, place, new);
+}
+
+/// Starts the first task that the seat was given, which a leader claimed for it.
+pub fn start_given(t: &RunTable, s: &mut Seat, at: u32)
+    requires seat { s.old.token.table_id ≡ t.now.table.shared.table_id }
+    requires live { IsLiveOf t.now.layout s.old.worker s.old.token.me.0 }
+    requires inside { (at < RECORDS * t.now.layout.workers) × (s.old.worker < 8) }
+    requires given { (m : Spot) × (rest : List Spot) × (s.old.token.me.0.tasks.given ≡ m ∷ rest) × (m.berth.at ≡ at) }
+    ensures seat { (s.new.token.table_id ≡ s.old.token.table_id) × (s.new.token.me.1 ≡ s.old.token.me.1) × (s.new.worker ≡ s.old.worker) × (s.new.word ≡ s.old.word) }
+    ensures started { (m : Spot) (rest : List Spot) → s.old.token.me.0.tasks.given ≡ m ∷ rest → s.new.token.me.0 ≡ starts s.old.token.me.0 m rest }
+{
+    let place = t.layout.field(at, STATE);
+    let found = t.table.shared.load::<LookingGiven>(&mut s.token, place);
+    let state = state_in(found);
+    let new = pack_state(&StateWord {
+        frame: state.frame,
+        fork: state.fork,
+        stand: Stand::Running(s.worker),
+    });
+    t.table
+        .shared
+        .store::<StartingGiven>(&mut s.token, place, new);
+}
+
+/// Claims for a thief the entry that the seat noted last, where its notes say that it is ready, and answers whether it did. It does
+/// just where the record's word is still the one that was noted; so it does not matter when the notes were made.
+pub fn claim_for(t: &RunTable, s: &mut Seat, at: u32, state: StateWord, thief: u32) -> bool
+    requires seat { s.old.token.table_id ≡ t.now.table.shared.table_id }
+    requires live { IsLiveOf t.now.layout s.old.worker s.old.token.me.0 }
+    requires inside { (at < RECORDS * t.now.layout.workers) × (thief < t.now.layout.workers) × (thief < 8) }
+    requires noted { IsNotedReady s.old.token.me.0 at state }
+    ensures seat { (s.new.token.table_id ≡ s.old.token.table_id) × (s.new.token.me.1 ≡ s.old.token.me.1) × (s.new.worker ≡ s.old.worker) × (s.new.word ≡ s.old.word) }
+    ensures claimed { ClaimedFor s.old.token.me.0 at state thief s.new.token.me.0 result }
+{
+    let place = t.layout.field(at, STATE);
+    let old = pack_state(&state);
+    let new = pack_state(&StateWord {
+        frame: state.frame,
+        fork: state.fork,
+        stand: Stand::Given(thief),
+    });
+    let word = t
+        .table
+        .shared
+        .compare_exchange::<ClaimingFor>(&mut s.token, place, old, new);
+    word == old
 }
 
 /// Claims a record of the seat's own region, all earlier entries of whose frame it knows finished.

@@ -10,6 +10,6 @@ mod claims;
 mod states;
 mod stop;
 
-pub use claims::{claim_own, finish, start};
+pub use claims::{claim_for, claim_own, finish, start, start_given};
 pub use states::{Claim, stand};
 pub use stop::stopped;
