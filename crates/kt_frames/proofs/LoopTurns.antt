@@ -1,5 +1,5 @@
 -- How a run stands while a loop of it runs.
-use Rattle.std.proofs.Common.{◌≡◌, ◌≤◌, ◌<◌, ℕ, zero, suc, ◌+◌, ◌-◌, Bool, true, false, List, [], ◌∷◌, ◌++◌, length, Option, Some, None, refl, sym, ap, ◌∙◌, subst, arith}
+use Rattle.std.proofs.Common.{◌≡◌, ◌≤◌, ◌<◌, ℕ, zero, suc, ◌+◌, ◌-◌, true, List, [], ◌∷◌, ◌++◌, length, Option, Some, None, refl, sym, ap, ◌∙◌, subst, arith}
 use Rattle.std.proofs.lemmas.List.{length-append}
 use Rattle.std.proofs.lemmas.Grind.{flat_map-append}
 use Rattle.std.proofs.lemmas.Option.{slice_get_within}
@@ -8,7 +8,7 @@ use Rattle.kt_order.specs.Machine.{Machine}
 use Rattle.kt_order.specs.Sequential.{Alone, Entry, Run, alone, each, joined, noted, still_at, whole, whole_within}
 use Rattle.kt_prog.specs.Accepted.{IsAccepted}
 use Rattle.kt_prog.specs.Bodies.{script_of}
-use Rattle.kt_prog.specs.Calls.{CallTree, Job, Whole, Index}
+use Rattle.kt_prog.specs.Calls.{CallTree, Whole, Index}
 use Rattle.kt_prog.specs.Entries.{index_in, indexes_of}
 use Rattle.kt_prog.specs.Operations.{is_loop_at}
 use Rattle.kt_prog.specs.Reference.{Placed, machine_of, placed}
@@ -21,13 +21,13 @@ use Rattle.kt_body.specs.declared.ops.Ended.TheVariants as E
 use Rattle.kt_store.specs.Stores.{StoreState}
 use Rattle.kt_frames.specs.Loops.{IsLooping, left_in, placed_indexes, rest_in}
 use Rattle.kt_frames.specs.Owned.{Moves, never, stands_at}
-use Rattle.kt_frames.specs.Rest.{EachCall, GoodStack, IsCallAt, IsClaimed, IsLive, answered_from, fault_of, least_with, left, limit_ran, rest_below, rest_of, run_all, to_do, waiting, with_frames}
-use Rattle.kt_frames.specs.Stack.{Frame, IsRunning, Stack, begun, entry_path, next_of, path_over}
+use Rattle.kt_frames.specs.Rest.{EachCall, GoodStack, IsClaimed, IsLive, answered_from, fault_of, least_with, left, limit_ran, rest_below, rest_of, run_all, to_do, waiting, with_frames}
+use Rattle.kt_frames.specs.Stack.{IsRunning, Stack, entry_path, path_over}
 use Rattle.kt_frames.specs.declared.owner.Owner.{Owner}
 use Rattle.kt_frames.proofs.Alike.{all_pushed, calls_of, numbered, over_all}
 use Rattle.kt_frames.proofs.Rests.{answered_index, answered_long, answered_noted, fits_deep, rest_claimed}
 use Rattle.kt_frames.proofs.Turns.{Body, Nothing, body_done, claimed_at, claimed_over, index_keeps, opened_over, waits_more}
-use Rattle.kt_frames.proofs.Zeroed.{Looped, loop_alone, looped, zeroed}
+use Rattle.kt_frames.proofs.Zeroed.{Looped, loop_alone, looped}
 
 module _ (p : Program) where
   abbrev m : Machine

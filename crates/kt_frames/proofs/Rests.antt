@@ -20,7 +20,7 @@ use Rattle.kt_prog.specs.declared.programs.Program.{Program}
 use Rattle.kt_prog.specs.declared.runs.Ran.{Ran}
 use Rattle.kt_prog.specs.declared.runs.Outcome.TheVariants as O
 use Rattle.kt_frames.specs.Stack.{Frame, Stack, HasEnded, begun, begun_at, next_of, entry_path, pushed, with_child}
-use Rattle.kt_frames.specs.Rest.{EachCall, placed_from, IsCallAt, GoodBelow, GoodStack, waiting_below, waiting, earlier, with_least, least_with}
+use Rattle.kt_frames.specs.Rest.{EachCall, placed_from, IsCallAt, GoodBelow, GoodStack, waiting_below, waiting, with_least, least_with}
 use Rattle.kt_frames.specs.Rest as R
 use Rattle.kt_frames.proofs.Alike.{all_pushed, over_all, numbered}
 

@@ -2,7 +2,7 @@
 use Rattle.std.proofs.Common.{◌≡◌, ◌≤◌, ◌<◌, ℕ, zero, suc, ◌+◌, ◌-◌, Bool, true, false, if◌then◌else◌, is_some, nat_lt, List, [], ◌∷◌, ◌++◌, length, Option, Some, None, refl, sym, ap, ◌∙◌, subst, arith, append-nil}
 use Rattle.std.proofs.lemmas.Bool.Decides.{nat_tests}
 use Rattle.std.proofs.lemmas.Option.{slice_get_within}
-use Rattle.kt_law.specs.declared.limits.TheConstants.{DEFINITIONS, DEPTH, INDEXES, TASKS}
+use Rattle.kt_law.specs.declared.limits.TheConstants.{DEFINITIONS, DEPTH, TASKS}
 use Rattle.kt_law.specs.declared.faults.F.{F}
 use Rattle.kt_order.specs.Body.{Keeps}
 use Rattle.kt_order.specs.Machine.{Machine}
@@ -29,7 +29,6 @@ use Rattle.kt_prog.proofs.Targets.{task_of}
 use Rattle.kt_body.specs.Endings.{Begins, EndsSo, answers_of}
 use Rattle.kt_body.specs.declared.ops.Ended.{Ended}
 use Rattle.kt_body.specs.declared.ops.Ended.TheVariants as E
-use Rattle.kt_frames.specs.OnlyTasks.{HasOnlyTasks}
 use Rattle.kt_frames.specs.Owned.{Moves, stands_at, never}
 use Rattle.kt_frames.specs.Rest.{EachCall, IsCallAt, GoodStack, waiting, waiting_below, rest_of, rest_below, answered_from, least_with, fault_of, IsLive, left, to_do, limit_ran, ended_ran, Finishes, stays, more, with_frames, IsClaimed, TurnIs}
 use Rattle.kt_frames.specs.declared.turn.Turn.{Turn}
@@ -37,8 +36,6 @@ use Rattle.kt_frames.specs.declared.turn.Turn.TheVariants as T
 use Rattle.kt_frames.specs.Stack.{Frame, Stack, opened, IsRunning, begun, begun_at, next_of, entry_path, path_over, finished_to}
 use Rattle.kt_frames.specs.declared.owner.Owner.{Owner}
 use Rattle.kt_frames.proofs.Layouts.{ended_none}
-use Rattle.kt_frames.proofs.Forking.{both}
-use Rattle.kt_frames.proofs.TaskBodies.{of_task, no_index, OfTask}
 use Rattle.kt_frames.proofs.Alike.{OfCall, Alike, Went, goes_alike, forks_numbered, forks_each, calls_of, all_pushed, over_all, keeps_as, last_of, numbered, IsLast}
 use Rattle.kt_frames.proofs.Rests.{Fitting, pushed_fit, pushed_over, with_children, rest_ended, rest_begun, rest_count, answered_noted, answered_limit, answered_still, good_at, fits_deep}
 
@@ -81,18 +78,6 @@ kin_all p s t (more {t = u} h runs none) =
       room = one.room ∙ two.room;
       rest = λ store. one.rest store ∙ two.rest store;
     }
-
--- a program of tasks alone has no loop
-module _ (p : Program) (ok : IsAccepted p) (only : HasOnlyTasks p) where
-  index_none : (x : Option Task) → OfTask x → index_in x ≡ None
-  index_none None h = refl
-  index_none (Some t) h = no_index t.index (both _ _ h).0
-
-  pub no_loop : (n : ℕ) → n ≤ DEFINITIONS → is_loop_at p n ≡ false
-  no_loop zero le = refl
-  no_loop (suc k) le =
-      let test : nat_lt k DEFINITIONS ≡ true = grind (arith, nat_tests) in
-      rw (test, index_none (task_at p.tasks k) (of_task p.tasks k (both _ _ only).0)) refl
 
 -- a call that is no loop's has no length
 index_is : (x : Option I.Index) → is_loop_of x ≡ is_some x

@@ -22,7 +22,6 @@ use Rattle.kt_prog.specs.declared.runs.Operation.{Operation}
 use Rattle.kt_prog.specs.declared.runs.Operation.TheVariants as O
 use Rattle.kt_store.specs.Stores.{StoreState}
 use Rattle.kt_frames.specs.Loops.{placed_indexes}
-use Rattle.kt_frames.specs.Owned.{Moves}
 use Rattle.kt_frames.specs.declared.owner.Owner.{Owner}
 use Rattle.kt_frames.proofs.Alike.{Went}
 

@@ -1,5 +1,5 @@
 -- What is left of a run where the frames stand so, and the answer that the run comes to.
-use Rattle.std.specs.Prelude.{◌≡◌, ◌≤◌, ◌<◌, ℕ, suc, ◌+◌, ◌-◌, false, List, [], ◌∷◌, length, drop, Option, Some, None, if◌then◌else◌}
+use Rattle.std.specs.Prelude.{◌≡◌, ◌≤◌, ◌<◌, ℕ, suc, ◌+◌, ◌-◌, false, List, [], ◌∷◌, length, drop, Option, Some, None}
 use Rattle.kt_law.specs.declared.limits.TheConstants.{INDEXES, TASKS}
 use Rattle.kt_order.specs.Machine.{Machine}
 use Rattle.kt_order.specs.Sequential.{Run, each, joined, still_at, whole}
@@ -7,7 +7,8 @@ use Rattle.kt_prog.specs.Calls.{CallTree, Whole}
 use Rattle.kt_prog.specs.Script.{Fault}
 use Rattle.kt_prog.specs.Fits.{Fits}
 use Rattle.kt_prog.specs.Entries.{tasks_of, indexes_of, faults_of}
-use Rattle.kt_prog.specs.Outcome.{answered, fault_before, fault_or_rows}
+use Rattle.kt_faults.specs.First.{earlier}
+use Rattle.kt_prog.specs.Outcome.{answered, fault_or_rows}
 use Rattle.kt_prog.specs.Runs.{FaultRun}
 use Rattle.kt_prog.specs.Reference.{Placed, machine_of}
 use Rattle.kt_prog.specs.declared.programs.Program.{Program}
@@ -68,11 +69,6 @@ module _ (p : Program) where
   abbrev pub rest_of : Stack → List ℕ → Run m
   rest_of st s = let x = rest_at st.below st.top.finished st.top.calls s in joined m x (rest_below st.below x.store)
 
--- the first of two faults, if there was one before
-abbrev pub earlier : Option FaultRun → FaultRun → FaultRun
-earlier None g = g
-earlier (Some f) g = if fault_before g f then g else f
-
 abbrev pub with_least : Option FaultRun → List FaultRun → List FaultRun
 with_least None faults = faults
 with_least (Some f) faults = f ∷ faults
@@ -80,7 +76,7 @@ with_least (Some f) faults = f ∷ faults
 -- with the fault of a body, if it had one
 abbrev pub least_with : Option FaultRun → List ℕ → Option ℕ → Option Fault → Option FaultRun
 least_with least path index None = least
-least_with least path index (Some f) = Some (earlier least (record { path = path; index = index; fault = f.law; line = f.line }))
+least_with least path index (Some f) = earlier least (Some (record { path = path; index = index; fault = f.law; line = f.line }))
 
 module _ (p : Program) where
   -- the answer where so many tasks and indexes were run, this is the least of their faults, and this run is left

@@ -1,27 +1,12 @@
 // The least fault of a run so far.
 ghost use Rattle.std.specs.Prelude.{◌≡◌, ◌≤◌, ◌+◌, length};
 ghost use Rattle.kt_frames.specs.Stack.{path_over};
-ghost use Rattle.kt_frames.specs.Rest.{earlier, fault_of, least_with};
+ghost use Rattle.kt_frames.specs.Rest.{fault_of, least_with};
 
 use crate::frames::Frames;
 use kt_body::Ended;
+use kt_faults::earlier;
 use kt_prog::{FaultAt, PATH};
-
-/// The earlier one of a fault and the least before it.
-pub fn least_of(least: Option<FaultAt>, fault: FaultAt) -> FaultAt
-    ensures { result ≡ earlier least fault }
-{
-    match least {
-        Some(least) => {
-            if fault.is_before(&least) {
-                fault
-            } else {
-                least
-            }
-        }
-        None => fault,
-    }
-}
 
 /// The least fault once the body of the task that runs, or of this index of the loop that runs, has ended so.
 pub fn least_after(
@@ -36,15 +21,15 @@ pub fn least_after(
     match ended {
         Ended::Fault(fault, line) => {
             let path = frames.path();
-            Some(least_of(
+            earlier(
                 least,
-                FaultAt {
+                Some(FaultAt {
                     path,
                     index,
                     fault,
                     line,
-                },
-            ))
+                }),
+            )
         }
         Ended::Done | Ended::Halted => least,
     }

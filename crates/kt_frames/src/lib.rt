@@ -3,7 +3,6 @@
 
 mod faults;
 mod frames;
-mod kinds;
 mod loops;
 mod opening;
 mod owner;
@@ -13,5 +12,4 @@ mod tests;
 mod turn;
 
 pub use frames::{Frames, Pushed};
-pub use kinds::has_only_tasks;
 pub use run::run_owner;

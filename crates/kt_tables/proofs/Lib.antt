@@ -1,6 +1,5 @@
 pub mod TablePermutes
 pub mod TableListed
-pub mod TableFaults
 pub mod TableRows
 pub mod TablePaths
 pub mod LoopShown

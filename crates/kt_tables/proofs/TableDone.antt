@@ -34,7 +34,7 @@ use Rattle.kt_tables.specs.declared.events.Stand.TheVariants as S
 use Rattle.kt_tables.proofs.TableRows.{the_some}
 use Rattle.kt_tables.proofs.TablePermutes.{In, in_either, in_get, get_in, in_flat, in_flattened}
 use Rattle.kt_tables.proofs.TableListed.{in_there}
-use Rattle.kt_tables.proofs.TableFaults.{same_fault}
+use Rattle.kt_faults.specs.Laws.{SameFaultsSameAnswer}
 use Rattle.kt_tables.proofs.LoopShown.{got_less}
 use Rattle.kt_tables.proofs.TableEntries.{lowered, spots_of, child_in, index_entries, row_entries, entries_in, Paths, F, spot_own, spot_child, has_index, spots_to, spots_from, of_rows, permutes}
 
@@ -209,7 +209,7 @@ module _ (p : Program) where
           subst (λ (n : ℕ). n ≤ length (indexes_of p (reference p input).entries)) (ap (λ es. length (indexes_of p es)) same ∙ sym many_index_runs) less.1,
         )
 
-    module _ (main : MainIsFinished x.tasks) where
+    module _ (main : MainIsFinished x.tasks) (same : SameFaultsSameAnswer) where
       root_finished : (tasks_by_path p x.tasks []).phase ≡ order.Finished
       root_finished = elim (h.all [] tt) as (λ _. (tasks_by_path p x.tasks []).phase ≡ order.Finished) [
         | as_row t r at is ↦ root t r at is
@@ -294,9 +294,10 @@ module _ (p : Program) where
       fault_same =
           let G = F p input l bodies direct ok x h fault_entry in
           let paths = Paths p input l bodies direct ok x h in
-          same_fault x.store (faults_in p x.tasks) (faults_of p Entries) one_fault
-          (λ f i. (let a = in_flattened G f (flat_map spots_of x.tasks) (subst (In f) (sym by_spots) i) in subst (In f) (sym by_paths) (in_flat G a.0 f paths (spots_to p input l bodies direct ok x h a.0 a.1) a.2)))
-          (λ f i. (let a = in_flattened G f paths (subst (In f) by_paths i) in subst (In f) by_spots (in_flat G a.0 f (flat_map spots_of x.tasks) (spots_from p input l bodies direct ok x h a.0 a.1) a.2)))
+          same (faults_in p x.tasks) (faults_of p Entries) one_fault (λ f. (
+            (λ i. (let a = in_flattened G f (flat_map spots_of x.tasks) (subst (In f) (sym by_spots) i) in subst (In f) (sym by_paths) (in_flat G a.0 f paths (spots_to p input l bodies direct ok x h a.0 a.1) a.2))),
+            (λ i. (let a = in_flattened G f paths (subst (In f) by_paths i) in subst (In f) by_spots (in_flat G a.0 f (flat_map spots_of x.tasks) (spots_from p input l bodies direct ok x h a.0 a.1) a.2))),
+          )) x.store
 
       run_entries : reference p input ≡ record { store = x.store; entries = Entries }
       unfolding reference

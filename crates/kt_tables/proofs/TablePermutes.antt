@@ -1,13 +1,13 @@
 -- Two lists of the same members, none of them twice, are permutations of each other, and so are the lists made of their members.
 use Rattle.std.proofs.Common.{◌≡◌, ℕ, zero, suc, List, [], ◌∷◌, ◌++◌, map, Some, ◌⊎◌, inl, inr, refl, sym, ap, subst, ◌∙◌, append_assoc, slice_get}
 use Rattle.std.specs.List.{flat_map}
+use Rattle.kt_order.specs.Lists.{SomeOf}
 use Rattle.std.specs.List.Sorted.{IsPermutation}
 use Rattle.std.proofs.lemmas.List.Concat.{flat_map-append}
 use Rattle.std.proofs.lemmas.List.Sorted.{IsPermutation-refl, IsPermutation-append, IsPermutation-append_left, IsPermutation-append_comm, IsPermutation-trans}
 
 abbrev pub In : {X : Type 0} → X → List X → Type 0
-In x [] = ⊥
-In x (y ∷ ys) = (x ≡ y) ⊎ In x ys
+In x ys = SomeOf (λ y. x ≡ y) ys
 
 abbrev pub NoTwice : {X : Type 0} → List X → Type 0
 NoTwice [] = Unit {0}

@@ -3,6 +3,7 @@ ghost use Rattle.kt_tables.specs.TableEnabled.{RefusedIsDisabled};
 ghost use Rattle.kt_tables.specs.TableTheory.{TableEventsAreEvents};
 ghost use Rattle.kt_tables.specs.TableLaws.{DoneTableIsReference, EventsKeepTablesLawful, OpeningTableIsLawful, SomeTableEventGoes, TablesHaveNoMore};
 
+use kt_faults::laws::same_faults_same_answer;
 use kt_prog::laws::{bodies_keep, loops_are_direct};
 use kt_runs::laws::programs_meet_laws;
 
@@ -38,6 +39,7 @@ pub fn done_table_is_reference()
     bodies_keep();
     loops_are_direct();
     programs_meet_laws();
+    same_faults_same_answer();
 }
 
 /// A lawful table has no more tasks and no more indexes than the reference run.

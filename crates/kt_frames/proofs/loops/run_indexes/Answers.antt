@@ -1,4 +1,4 @@
-use Rattle.std.proofs.Common.{◌≡◌, ℕ, ◌≤◌, ◌<◌, refl, arith, ap, sym, ◌∙◌, subst}
+use Rattle.std.proofs.Common.{◌≡◌, ℕ, refl, arith, ap, sym, ◌∙◌}
 use Rattle.kt_prog.specs.Calls.{CallTree}
 use Rattle.kt_frames.specs.Loops.{left_in}
 use Rattle.kt_frames.proofs.loops.run_indexes.Goals as goal

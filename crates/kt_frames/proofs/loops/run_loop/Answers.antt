@@ -1,4 +1,4 @@
-use Rattle.std.proofs.Common.{◌≡◌, ◌≤◌, ◌<◌, ◌+◌, ap, refl, sym, subst, arith, ◌∙◌}
+use Rattle.std.proofs.Common.{◌≤◌, ◌+◌, ap, refl, sym, arith, ◌∙◌}
 use Rattle.kt_law.specs.declared.limits.TheConstants.{INDEXES}
 use Rattle.kt_prog.specs.Calls.{CallTree}
 use Rattle.kt_frames.specs.declared.owner.Owner.{Owner}

@@ -1,10 +1,9 @@
--- The first of some faults is one fact of them, whatever their order.
+-- The order of faults: by path, and at one path by index.
 use Rattle.std.proofs.Common.{◌≡◌, ◌<◌, ℕ, Bool, true, false, List, [], ◌∷◌, Option, Some, None, ◌⊎◌, inl, inr, refl, sym, ap, subst, ◌∙◌, arith, nat_eq, nat_lt, not, ◌&&◌, ◌||◌, if◌then◌else◌}
 use Rattle.std.proofs.lemmas.Bool.Decides.{nat_tests}
 use Rattle.kt_prog.specs.Runs.{FaultRun}
-use Rattle.kt_prog.specs.Outcome.{path_before, index_before, fault_before, first_fault, fault_or_rows}
-use Rattle.kt_prog.specs.declared.runs.Outcome.TheVariants as O
-use Rattle.kt_tables.proofs.TablePermutes.{In}
+use Rattle.kt_prog.specs.Outcome.{path_before, index_before, fault_before, first_fault}
+use Rattle.kt_faults.specs.First.{IsAmong}
 
 order_of : (m n : ℕ) → (m < n) ⊎ ((m ≡ n) ⊎ (n < m))
 order_of m n = grind arith
@@ -131,7 +130,7 @@ fault_on f g h a b = view_before f h (both (before_view f g a) (before_view g h 
 fault_self : (f : FaultRun) → fault_before f f ≡ false
 fault_self f = rw (irreflexive f.path, index_same f.index) refl
 
-neither_fault : (f g : FaultRun) → fault_before f g ≡ false → fault_before g f ≡ false → (f.path ≡ g.path) × (f.index ≡ g.index)
+pub neither_fault : (f g : FaultRun) → fault_before f g ≡ false → fault_before g f ≡ false → (f.path ≡ g.path) × (f.index ≡ g.index)
 neither_fault f g a b =
     let one = split (path_before f.path g.path) (path_before g.path f.path) (index_before f.index g.index) a in
     let two = split (path_before g.path f.path) (path_before f.path g.path) (index_before g.index f.index) b in
@@ -143,17 +142,17 @@ neither_fault f g a b =
     split false false i e = (refl, λ h. e)
 
 -- the first of the faults is one of them
-first_in : (f : FaultRun) (fs : List FaultRun) → In (first_fault f fs) (f ∷ fs)
+pub first_in : (f : FaultRun) (fs : List FaultRun) → IsAmong (first_fault f fs) (f ∷ fs)
 first_in f [] = inl refl
 first_in f (g ∷ fs) = by (fault_before g f) (first_in f fs) (first_in g fs)
   where
-    by : (b : Bool) → In (first_fault f fs) (f ∷ fs) → In (first_fault g fs) (g ∷ fs) → In (first_fault (if b then g else f) fs) (f ∷ (g ∷ fs))
+    by : (b : Bool) → IsAmong (first_fault f fs) (f ∷ fs) → IsAmong (first_fault g fs) (g ∷ fs) → IsAmong (first_fault (if b then g else f) fs) (f ∷ (g ∷ fs))
     by true mine other = inr other
     by false (inl e) other = inl e
     by false (inr h) other = inr (inr h)
 
 -- what is not before the one is not before the other, which is before it
-not_later : (f g h : FaultRun) → fault_before f h ≡ false → fault_before g h ≡ true → fault_before f g ≡ false
+pub not_later : (f g h : FaultRun) → fault_before f h ≡ false → fault_before g h ≡ true → fault_before f g ≡ false
 not_later f g h none less = decide (fault_before f g) refl
   where
     decide : (b : Bool) → fault_before f g ≡ b → b ≡ false
@@ -173,16 +172,27 @@ moved : (a b c : FaultRun) → (b.path ≡ c.path) × (b.index ≡ c.index) → 
 moved a b c same (inl p) = inl (subst (λ (q : List ℕ). path_before a.path q ≡ true) same.0 p)
 moved a b c same (inr p) = inr (p.0 ∙ same.0, subst (λ (k : Option ℕ). index_before a.index k ≡ true) same.1 p.1)
 
+-- what is not before g, which is not before f, is not before f
+pub not_through : (h g f : FaultRun) → fault_before h g ≡ false → fault_before g f ≡ false → fault_before h f ≡ false
+not_through h g f later none = decide (fault_before h f) refl (fault_before f g) refl
+  where
+    decide : (b : Bool) → fault_before h f ≡ b → (c : Bool) → fault_before f g ≡ c → b ≡ false
+    decide false d c e = refl
+    decide true d true e = absurd (cc (sym later ∙ fault_on h f g d e))
+    decide true d false e =
+        let same = neither_fault f g e none in
+        absurd (cc (sym later ∙ view_before h g (moved h f g same (before_view h f d))))
+
 -- none of them is before the first
-first_least : (f : FaultRun) (fs : List FaultRun) (g : FaultRun) → In g (f ∷ fs) → fault_before g (first_fault f fs) ≡ false
+pub first_least : (f : FaultRun) (fs : List FaultRun) (g : FaultRun) → IsAmong g (f ∷ fs) → fault_before g (first_fault f fs) ≡ false
 first_least f [] g (inl e) = subst (λ (h : FaultRun). fault_before h f ≡ false) (sym e) (fault_self f)
 first_least f [] g (inr h) = absurd h
 first_least f (h ∷ fs) g i = by (fault_before h f) refl (first_least f fs) (first_least h fs) i
   where
     by : (b : Bool) → fault_before h f ≡ b
-        → ((u : FaultRun) → In u (f ∷ fs) → fault_before u (first_fault f fs) ≡ false)
-        → ((u : FaultRun) → In u (h ∷ fs) → fault_before u (first_fault h fs) ≡ false)
-        → In g (f ∷ (h ∷ fs)) → fault_before g (first_fault (if b then h else f) fs) ≡ false
+        → ((u : FaultRun) → IsAmong u (f ∷ fs) → fault_before u (first_fault f fs) ≡ false)
+        → ((u : FaultRun) → IsAmong u (h ∷ fs) → fault_before u (first_fault h fs) ≡ false)
+        → IsAmong g (f ∷ (h ∷ fs)) → fault_before g (first_fault (if b then h else f) fs) ≡ false
     by true e mine other (inr j) = other g j
     by true e mine other (inl same) =
         subst (λ (w : FaultRun). fault_before w (first_fault h fs) ≡ false) (sym same) (not_sooner f h (first_fault h fs) e (other h (inl refl)))
@@ -192,7 +202,7 @@ first_least f (h ∷ fs) g i = by (fault_before h f) refl (first_least f fs) (fi
         subst (λ (w : FaultRun). fault_before w (first_fault f fs) ≡ false) (sym same) (through (first_fault f fs) (first_in f fs) (mine f (inl refl)))
       where
         -- what is not before f is not before the least, which is f or before it
-        through : (w : FaultRun) → In w (f ∷ fs) → fault_before f w ≡ false → fault_before h w ≡ false
+        through : (w : FaultRun) → IsAmong w (f ∷ fs) → fault_before f w ≡ false → fault_before h w ≡ false
         through w there least = decide (fault_before h w) refl (fault_before w f) refl
           where
             decide : (b : Bool) → fault_before h w ≡ b → (c : Bool) → fault_before w f ≡ c → b ≡ false
@@ -201,17 +211,3 @@ first_least f (h ∷ fs) g i = by (fault_before h f) refl (first_least f fs) (fi
             decide true d false e' =
                 let same = neither_fault w f e' least in
                 absurd (cc (sym e ∙ view_before h f (moved h w f same (before_view h w d))))
-
--- two lists of the same faults, at most one a path and index, come to the same
-pub same_fault : (store : List ℕ) (fs gs : List FaultRun)
-    → ((f g : FaultRun) → In f fs → In g fs → f.path ≡ g.path → f.index ≡ g.index → f ≡ g)
-    → ((f : FaultRun) → In f fs → In f gs) → ((f : FaultRun) → In f gs → In f fs)
-    → fault_or_rows store fs ≡ fault_or_rows store gs
-same_fault store [] [] one to from = refl
-same_fault store [] (g ∷ gs) one to from = absurd (from g (inl refl))
-same_fault store (f ∷ fs) [] one to from = absurd (to f (inl refl))
-same_fault store (f ∷ fs) (g ∷ gs) one to from =
-    let a = first_in f fs in
-    let b = from (first_fault g gs) (first_in g gs) in
-    let same = neither_fault (first_fault f fs) (first_fault g gs) (first_least g gs (first_fault f fs) (to (first_fault f fs) a)) (first_least f fs (first_fault g gs) b) in
-    ap O.Fault (one (first_fault f fs) (first_fault g gs) a b same.0 same.1)
