@@ -2,3 +2,4 @@ pub mod Links
 pub mod Steps
 pub mod Sound
 pub mod Pieces
+pub mod Reads

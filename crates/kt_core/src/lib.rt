@@ -9,4 +9,5 @@ mod rows;
 mod running;
 
 pub use kt_tables::{BodyFault, Event, Phase, Stand, Why};
+pub use pieces::Piece;
 pub use running::Core;

@@ -1,9 +1,10 @@
 // What a loop has from its beginning on: its indexes, and which of them are not taken or not retired.
-ghost use Rattle.std.specs.Prelude.{◌≡◌, ◌≤◌, ◌<◌, ◌-◌, ◌^◌, ◌+◌, ◌∷◌, [], IfErr, IfOk, Some, length, replicate, slice_get, true};
+ghost use Rattle.std.specs.Prelude.{◌≡◌, ◌≤◌, ◌<◌, ◌-◌, ◌^◌, ◌+◌, ◌∷◌, [], IfErr, IfOk, Some, length, option_map, replicate, slice_get, true};
+ghost use Rattle.kt_core.specs.Reads.{fault_at};
 ghost use Rattle.kt_order.specs.Books.{one_piece};
 ghost use Rattle.kt_prog.specs.declared.runs.Operation.TheVariants as operation_is;
 ghost use Rattle.kt_tables.specs.LoopRows.{can_take, ends, has_inside, index_after, index_went_on, is_taken, is_under_way, part_indexed, part_retired, part_split, part_taken, take_indexes, taken_index};
-ghost use Rattle.kt_tables.specs.Tables.{no_loop, untaken_index, whole_loop};
+ghost use Rattle.kt_tables.specs.Tables.{body_fault, no_loop, untaken_index, whole_loop};
 
 use crate::pieces;
 use crate::pieces::Piece;
@@ -192,6 +193,22 @@ impl Part {
         ensures { result ≡ self.now.ended }
     {
         self.ended
+    }
+
+    pub fn pieces(&self) -> &[Piece]
+        ensures { result.now ≡ self.now.pieces }
+    {
+        self.pieces.as_slice()
+    }
+
+    /// The fault that ended the body of an index.
+    pub fn index_fault(&self, index: u32) -> Option<BodyFault>
+        ensures { option_map body_fault result ≡ fault_at (slice_get self.now.indexes index) }
+    {
+        match self.indexes.get(index as usize) {
+            Some(one) => one.fault,
+            None => None,
+        }
     }
 
     pub fn has_inside(&self, at: u32) -> bool

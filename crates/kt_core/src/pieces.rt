@@ -39,7 +39,15 @@ impl Piece {
         self.from < at && at < self.to
     }
 
-    fn to(&self) -> u32
+    /// The first index.
+    pub fn from(&self) -> u32
+        ensures { result ≡ self.now.from }
+    {
+        self.from
+    }
+
+    /// The index behind the last one.
+    pub fn to(&self) -> u32
         ensures { result ≡ self.now.to }
     {
         self.to

@@ -1,5 +1,6 @@
 // The tasks of a core.
 ghost use Rattle.std.specs.Prelude.{◌≡◌, ◌≤◌, ◌<◌, ◌-◌, ◌^◌, ◌∷◌, ◌++◌, ◌↔◌, [], IfErr, IfOk, IsTrue, length, slice_get, true};
+ghost use Rattle.kt_core.specs.Reads.{fault_of_index};
 ghost use Rattle.kt_tables.specs.LoopRows.{can_take, has_inside, is_under_way, row_begun, row_indexed, row_retired, row_split, row_taken};
 ghost use Rattle.kt_tables.specs.Tables.{fault_of_row, fresh_row, whole_loop};
 ghost use Rattle.kt_tables.specs.TableEvents.{in_phase, row_after, went_on};
@@ -7,6 +8,7 @@ ghost use Rattle.kt_tables.specs.declared.events.Phase.TheVariants as phase_is;
 ghost use Rattle.kt_prog.specs.declared.runs.Operation.TheVariants as operation_is;
 
 use crate::parts::Part;
+use crate::pieces::Piece;
 use arrayvec::ArrayVec;
 use kt_law::{F, NoMemory};
 use kt_prog::{Call, FaultAt, Operation, PATH};
@@ -124,6 +126,28 @@ impl Row {
         ensures { result ≡ self.now.loop.ended }
     {
         self.part.ended()
+    }
+
+    /// The pieces of its indexes that are not taken.
+    pub fn pieces(&self) -> &[Piece]
+        ensures { result.now ≡ self.now.loop.pieces }
+    {
+        self.part.pieces()
+    }
+
+    /// The fault that ended the body of an index, with the path of the loop.
+    pub fn index_fault(&self, index: u32) -> Option<FaultAt>
+        ensures { result ≡ fault_of_index self.now.path index (slice_get self.now.loop.indexes index) }
+    {
+        match self.part.index_fault(index) {
+            Some(fault) => Some(FaultAt {
+                path: copied_path(self.path.as_slice()),
+                index: Some(index),
+                fault: fault.law,
+                line: fault.line,
+            }),
+            None => None,
+        }
     }
 
     pub fn has_inside(&self, at: u32) -> bool

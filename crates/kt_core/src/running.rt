@@ -12,6 +12,7 @@ ghost use Rattle.kt_core.specs.Steps.{StaysFinished, rephased};
 ghost use Rattle.kt_tables.specs.Tables.{MainIsFinished, TaskRow, clash_before, count_indexes, fault_of_row, open_before, open_child, opening_state};
 ghost use Rattle.kt_tables.specs.TableLaws.{IsLawfulState, TableGivesReference, faults_in};
 
+mod reads;
 mod steps;
 
 use crate::links::{Link, count_settled, first_clash, first_open};

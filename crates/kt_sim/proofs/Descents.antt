@@ -6,11 +6,11 @@ use Rattle.std.proofs.lemmas.Option.{slice_get_within}
 use Rattle.kt_law.specs.declared.limits.TheConstants.{DEPTH}
 use Rattle.kt_order.specs.Paths.{same_path, shift, IsThere}
 use Rattle.kt_order.proofs.Squares.{same_is}
-use Rattle.kt_frames.proofs.Forking.{both}
+use Rattle.kt_prog.proofs.Lists.{both_hold}
 use Rattle.kt_tables.specs.Tables.{TaskRow, CoreState, parent_of, is_root, is_child, are_siblings, is_open, first_from, open_before, open_child}
 use Rattle.kt_tables.specs.TableLaws.{IsLawfulTable, IsLawfulState}
 use Rattle.kt_sim.specs.Turns.{IsFirst, depth_at, depth_of}
-use Rattle.kt_sim.proofs.Events.{row_there}
+use Rattle.kt_sim.proofs.Outside.{row_there}
 
 -- the first task that passes a test
 record Found (test : TaskRow → Bool) (tasks : List TaskRow) (n k : ℕ) : Type 0 where
@@ -66,7 +66,7 @@ and_both true false x y = cc
 and_both false b x y = cc
 
 child_path : (p q : List ℕ) → is_child p q ≡ true → parent_of q ≡ p
-child_path p q e = same_is (parent_of q) p (both (not (is_root q)) (same_path (parent_of q) p) e).1
+child_path p q e = same_is (parent_of q) p (both_hold (not (is_root q)) (same_path (parent_of q) p) e).1
 
 one_longer : (q : List ℕ) → not (is_root q) ≡ true → length q ≡ suc (length (parent_of q))
 one_longer [] e = cc
@@ -75,7 +75,7 @@ one_longer (k ∷ (j ∷ q)) e = let rest = one_longer (j ∷ q) refl in omega (
 
 child_longer : (p q : List ℕ) → is_child p q ≡ true → length q ≡ suc (length p)
 child_longer p q e =
-    one_longer q (both (not (is_root q)) (same_path (parent_of q) p) e).0 ∙ ap (λ (w : List ℕ). suc (length w)) (child_path p q e)
+    one_longer q (both_hold (not (is_root q)) (same_path (parent_of q) p) e).0 ∙ ap (λ (w : List ℕ). suc (length w)) (child_path p q e)
 
 -- the first open child of a task is the first open one of its frame
 pub record FirstChild (r : TaskRow) (k : ℕ) (tasks : List TaskRow) : Type 0 where
@@ -87,7 +87,7 @@ pub record FirstChild (r : TaskRow) (k : ℕ) (tasks : List TaskRow) : Type 0 wh
 
 sibling_child : (r s u : TaskRow) → is_child r.path s.path ≡ true → (are_siblings u.path s.path && is_open u) ≡ true → (is_child r.path u.path && is_open u) ≡ true
 sibling_child r s u child e =
-    let two = both (are_siblings u.path s.path) (is_open u) e in
+    let two = both_hold (are_siblings u.path s.path) (is_open u) e in
     let parts = all_three (not (is_root u.path)) (not (is_root s.path)) (same_path (parent_of u.path) (parent_of s.path)) two.0 in
     let same : same_path (parent_of u.path) r.path ≡ true = subst (λ (w : List ℕ). same_path (parent_of u.path) w ≡ true) (child_path r.path s.path child) parts.1 in
     and_both (is_child r.path u.path) (is_open u) (and_both (not (is_root u.path)) (same_path (parent_of u.path) r.path) parts.0 same) two.1
@@ -97,7 +97,7 @@ first_child r k tasks e =
     let f = first_found 0 (λ (u : TaskRow). is_child r.path u.path && is_open u) tasks k e in
     let number = f.number in
     let at : f.place ≡ k = omega (arith, number) in
-    let two = both (is_child r.path f.row.path) (is_open f.row) f.passes in
+    let two = both_hold (is_child r.path f.row.path) (is_open f.row) f.passes in
     let none = none_passes 0 (λ (u : TaskRow). is_child r.path u.path && is_open u) (λ (u : TaskRow). are_siblings u.path f.row.path && is_open u)
     (take f.place tasks) (λ u h. sibling_child r f.row u two.0 h) (f.none 0) in
     record {

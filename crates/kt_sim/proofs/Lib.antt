@@ -1,7 +1,13 @@
 pub mod Rows
+pub mod Parts
+pub mod Holding
+pub mod Facts
 pub mod Operated
+pub mod Outside
+pub mod IndexOperated
+pub mod Moved
 pub mod Ends
-pub mod Events
+pub mod Begun
 pub mod Descents
 pub mod Turning
 pub mod LeastFaults

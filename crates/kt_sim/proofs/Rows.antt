@@ -1,9 +1,8 @@
 -- Lists of tasks after a task was changed and others were added.
-use Rattle.std.proofs.Common.{◌≡◌, ◌≢◌, ◌≤◌, ℕ, zero, suc, ◌+◌, ◌*◌, List, [], ◌∷◌, ◌++◌, length, Some, refl, ap, subst, arith, slice_get, slice_set}
-use Rattle.kt_tables.specs.Tables.{TaskRow}
-use Rattle.kt_sim.specs.Simulated.{EachRow, rank, ranks}
-use Rattle.kt_tables.specs.declared.events.Phase.{Phase}
-use Rattle.kt_tables.specs.declared.events.Phase.TheVariants as P
+use Rattle.std.proofs.Common.{◌≡◌, ◌≢◌, ℕ, zero, suc, ◌+◌, List, [], ◌∷◌, ◌++◌, length, Some, refl, ap, subst, arith, slice_get, slice_set}
+use Rattle.kt_tables.specs.Tables.{TaskRow, count_indexes}
+use Rattle.kt_sim.specs.Left.{row_left, rows_left}
+use Rattle.kt_sim.specs.Simulated.{EachRow}
 
 pub get_same : (tasks : List TaskRow) (t : ℕ) (r s : TaskRow) → slice_get tasks t ≡ Some r → slice_get (slice_set tasks t s) t ≡ Some s
 get_same [] t r s e = cc
@@ -38,24 +37,27 @@ each_more P [] more h f k r e = f k k r e
 each_more P (u ∷ tasks) more h f zero r e = h 0 r e
 each_more P (u ∷ tasks) more h f (suc k) r e = each_more (λ n v. P (suc n) v) tasks more (λ n v g. h (suc n) v g) (λ n j v g. f n (suc j) v g) k r e
 
--- ranks
-pub ranks_set : (tasks : List TaskRow) (t : ℕ) (r s : TaskRow) → slice_get tasks t ≡ Some r
-    → ranks (slice_set tasks t s) + rank r.phase ≡ ranks tasks + rank s.phase
-ranks_set [] t r s e = cc
-ranks_set (u ∷ tasks) zero r s e = let same : u ≡ r = cc in let one : rank u.phase ≡ rank r.phase = ap (λ (v : TaskRow). rank v.phase) same in omega (arith, one)
-ranks_set (u ∷ tasks) (suc t) r s e = let rest = ranks_set tasks t r s e in omega (arith, rest)
+-- what is left
+pub left_set : (tasks : List TaskRow) (t : ℕ) (r s : TaskRow) → slice_get tasks t ≡ Some r
+    → rows_left (slice_set tasks t s) + row_left r ≡ rows_left tasks + row_left s
+left_set [] t r s e = cc
+left_set (u ∷ tasks) zero r s e = let same : u ≡ r = cc in let one : row_left u ≡ row_left r = ap row_left same in omega (arith, one)
+left_set (u ∷ tasks) (suc t) r s e = let rest = left_set tasks t r s e in omega (arith, rest)
 
-pub ranks_more : (tasks more : List TaskRow) → ranks (tasks ++ more) ≡ ranks tasks + ranks more
-ranks_more [] more = omega arith
-ranks_more (u ∷ tasks) more = let rest = ranks_more tasks more in omega (arith, rest)
+pub left_more : (tasks more : List TaskRow) → rows_left (tasks ++ more) ≡ rows_left tasks + rows_left more
+left_more [] more = omega arith
+left_more (u ∷ tasks) more = let rest = left_more tasks more in omega (arith, rest)
 
-rank_most : (phase : Phase) → rank phase ≤ 3
-rank_most P.Unclaimed = omega arith
-rank_most P.Running = omega arith
-rank_most P.Looping = omega arith
-rank_most P.Ended = omega arith
-rank_most P.Finished = omega arith
+-- indexes
+abbrev size : TaskRow → ℕ
+size r = length r.loop.indexes
 
-pub ranks_most : (tasks : List TaskRow) → ranks tasks ≤ 3 * length tasks
-ranks_most [] = omega arith
-ranks_most (u ∷ tasks) = let one = rank_most u.phase in let rest = ranks_most tasks in omega (arith, one, rest)
+pub count_set : (tasks : List TaskRow) (t : ℕ) (r s : TaskRow) → slice_get tasks t ≡ Some r
+    → count_indexes (slice_set tasks t s) + length r.loop.indexes ≡ count_indexes tasks + length s.loop.indexes
+count_set [] t r s e = cc
+count_set (u ∷ tasks) zero r s e = let same : u ≡ r = cc in let one : size u ≡ size r = ap size same in omega (arith, one)
+count_set (u ∷ tasks) (suc t) r s e = let rest = count_set tasks t r s e in omega (arith, rest)
+
+pub count_more : (tasks more : List TaskRow) → count_indexes (tasks ++ more) ≡ count_indexes tasks + count_indexes more
+count_more [] more = omega arith
+count_more (u ∷ tasks) more = let rest = count_more tasks more in omega (arith, rest)

@@ -16,6 +16,6 @@ abbrev pub least_with : Option FaultRun → List FaultRun → Option FaultRun
 least_with least [] = least
 least_with least (f ∷ faults) = least_with (lesser least (Some f)) faults
 
--- what a run comes to that has more tasks than the limit allows
+-- what a run comes to that has more tasks or indexes than the limits allow
 abbrev pub limit_ran : Ran
 limit_ran = record { outcome = N.Limit; tasks = 0; indexes = 0 }

@@ -1,3 +1,4 @@
+pub mod Left
 pub mod Simulated
 pub mod Choosing
 pub mod Turns

@@ -11,12 +11,21 @@ use std::alloc::Global;
 /// Tasks are mostly claimed among so many of those that wait, the last ones.
 const NEAR: usize = 64;
 
-/// Tasks that may be unclaimed, those that come first in the reference run towards the end; tasks that may run; the task that forked each
-/// (`main` for itself); and the numbers to choose by.
+/// An index of a loop that was taken.
+#[derive(Clone, Copy)]
+pub struct Held {
+    pub task: u32,
+    pub index: u32,
+}
+
+/// Tasks that may be unclaimed, those that come first in the reference run towards the end; tasks that may run; tasks that may loop;
+/// indexes that may be under way; the task that forked each (`main` for itself); and the numbers to choose by.
 #[derive(Drop)]
 pub struct Choices {
     pub waiting: Vec<u32>,
     pub running: Vec<u32>,
+    pub looping: Vec<u32>,
+    pub held: Vec<Held>,
     pub parents: Vec<u32>,
     pub random: Xoshiro256PlusPlus,
 }
@@ -29,15 +38,24 @@ impl Choices {
         let mut waiting = Vec::new(alloc);
         waiting.push(0)?;
         let running = Vec::new(alloc);
+        let looping = Vec::new(alloc);
+        let held = Vec::new(alloc);
         let mut parents = Vec::new(alloc);
         parents.push(0)?;
         let random = Xoshiro256PlusPlus::seed_from_u64(number);
         Ok(Choices {
             waiting,
             running,
+            looping,
+            held,
             parents,
             random,
         })
+    }
+
+    /// How many tasks may run or loop.
+    pub fn under_way(&self) -> usize {
+        self.running.len().saturating_add(self.looping.len())
     }
 
     /// Takes some task out of those that run.
@@ -49,6 +67,28 @@ impl Choices {
             None => None,
             Some(place) => Some(self.running.swap_remove(place)),
         }
+    }
+
+    /// Takes some index out of those that are held.
+    pub fn take_held(&mut self) -> Option<Held>
+        ensures below { (tasks : ℕ) → AreBelow tasks self.old → AreBelow tasks self.new }
+        ensures inside { (tasks : ℕ) → AreBelow tasks self.old → IfSome result (λ held. held.task < tasks) }
+    {
+        match pick(self.held.len(), &mut self.random) {
+            None => None,
+            Some(place) => Some(self.held.swap_remove(place)),
+        }
+    }
+
+    /// Takes note of indexes that were taken, so many from one on.
+    pub fn note_taken(&mut self, task: u32, from: u32, count: u32) -> Result<(), NoMemory>
+        ensures { (tasks : ℕ) → AreBelow tasks self.old → task < tasks → IfOk result (λ _. AreBelow tasks self.new) }
+    {
+        for turn in 0..count {
+            let index = from.saturating_add(turn);
+            self.held.push(Held { task, index })?;
+        }
+        Ok(())
     }
 
     /// Takes note of the tasks from one number on, which this task has forked.
@@ -64,6 +104,25 @@ impl Choices {
             self.parents.push(task)?;
         }
         Ok(())
+    }
+
+    /// A number from 1 up to the bound, or 1.
+    pub fn some_count(&mut self, most: u32) -> u32
+        ensures some { 1 ≤ result }
+        ensures few { 1 ≤ most → result ≤ most }
+        ensures same { (tasks : ℕ) → AreBelow tasks self.old → AreBelow tasks self.new }
+    {
+        if most == 0 {
+            return 1;
+        }
+        1 + self.random.random_range(0..most)
+    }
+
+    /// Whether a coin falls on its head.
+    pub fn flips(&mut self) -> bool
+        ensures { (tasks : ℕ) → AreBelow tasks self.old → AreBelow tasks self.new }
+    {
+        self.random.random_range(0..2u32) == 0
     }
 }
 

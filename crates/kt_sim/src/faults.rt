@@ -1,8 +1,7 @@
 // The least fault of a run.
-ghost use Rattle.std.specs.Prelude.{◌≡◌, None};
-ghost use Rattle.kt_tables.specs.TableLaws.{faults_in};
-ghost use Rattle.kt_tables.specs.Tables.{no_loop};
-ghost use Rattle.kt_sim.specs.Simulated.{EachRow};
+ghost use Rattle.std.specs.Prelude.{◌≡◌, ◌<◌, None, Some, length, slice_get};
+ghost use Rattle.kt_tables.specs.TableLaws.{faults_at, faults_in};
+ghost use Rattle.kt_tables.specs.Tables.{TaskRow};
 ghost use Rattle.kt_sim.specs.Answering.{least_with, lesser};
 
 use kt_core::Core;
@@ -25,14 +24,26 @@ fn least_of(least: Option<FaultAt>, fault: Option<FaultAt>) -> Option<FaultAt>
     }
 }
 
-/// The least fault of all tasks, none of which has indexes.
+/// The least of a fault that there may be and those of a task and its indexes.
+fn least_at(core: &Core, task: u32, least: Option<FaultAt>) -> Option<FaultAt>
+    requires { task < length core.now.table.tasks }
+    ensures { (r : TaskRow) → slice_get core.now.table.tasks task ≡ Some r → result ≡ least_with least (faults_at core.now.program r) }
+{
+    core.is_lawful();
+    let mut least = least_of(least, core.fault(task));
+    for index in 0..core.call(task).length {
+        least = least_of(least, core.index_fault(task, index));
+    }
+    least
+}
+
+/// The least fault of all tasks and indexes.
 pub fn least_fault(core: &Core) -> Option<FaultAt>
-    requires { EachRow (λ t r. r.loop ≡ no_loop) core.now.table.tasks }
     ensures { result ≡ least_with None (faults_in core.now.program core.now.table.tasks) }
 {
     let mut least = None;
     for task in 0..core.tasks() {
-        least = least_of(least, core.fault(task));
+        least = least_at(core, task, least);
     }
     least
 }

@@ -3,7 +3,10 @@
 
 mod bodies;
 mod choices;
+mod doing;
+mod events;
 mod faults;
+mod loops;
 mod operations;
 mod run;
 mod turns;

@@ -2,11 +2,12 @@
 ghost use Rattle.std.specs.Prelude.{◌≡◌, None};
 ghost use Rattle.kt_body.specs.Doing.{CanDo, Followed};
 ghost use Rattle.kt_body.specs.Endings.{IsCalled};
-ghost use Rattle.kt_sim.specs.Simulated.{At, IsFound, IsOut, Moves};
+ghost use Rattle.kt_sim.specs.Simulated.{At, IsFound, IsOut, Moves, event_of};
 ghost use Rattle.kt_sim.specs.declared.operations.Stop.TheVariants.{NoMemory};
 
+use crate::doing::enter;
 use kt_body::{Got, Ops, Went};
-use kt_core::{Core, Event, Why};
+use kt_core::{Core, Event};
 use kt_law::{NoMemory, Op, TASKS};
 use kt_prog::{Call, Operation};
 use std::alloc::AllocFailed;
@@ -14,7 +15,7 @@ use std::alloc::AllocFailed;
 /// Why a run goes no further.
 #[derive(Clone, Copy, Debug, PartialEq, Eq)]
 pub enum Stop {
-    /// There are more tasks than the limit allows.
+    /// There are more tasks or indexes than the limits allow.
     Over,
     NoMemory,
 }
@@ -35,15 +36,28 @@ impl<T: Drop> From<AllocFailed<T>> for Stop {
     }
 }
 
-/// A run, and the task whose body goes. Once there is a task too many, the rest of the body is passed over.
+/// A run with the count of the indexes of its loops, and the task, or the index of it, whose body goes. Once there is a task too many,
+/// the rest of the body is passed over.
 #[derive(Drop)]
 pub struct Simulation<'a> {
     pub core: Core<'a>,
+    pub indexes: u32,
     pub task: u32,
+    pub index: Option<u32>,
     pub stop: Option<Stop>,
 }
 
 impl<'a> Simulation<'a> {
+    /// The event that this operation of the body is.
+    pub fn event(&self, operation: Operation) -> Event
+        ensures { result ≡ event_of self.now.index self.now.task operation }
+    {
+        match self.index {
+            None => Event::Body(self.task, operation),
+            Some(index) => Event::Index(self.task, index, operation),
+        }
+    }
+
     fn operate(&mut self, operation: Operation) -> Went
         requires can { CanDo At IsOut self.old (λ a. operation) }
         requires called { IsCalled operation }
@@ -64,18 +78,18 @@ impl<'a> Simulation<'a> {
         requires goes { self.old.stop ≡ None }
         ensures { Followed At Moves IsOut self.old operation self.new result }
     {
-        match self.core.step(&Event::Body(self.task, operation)) {
+        let event = self.event(operation);
+        match enter(&mut self.core, &event) {
             Ok(()) => {
                 if self.core.tasks() > TASKS {
                     self.stop = Some(Stop::Over);
                 }
                 Went::Went
             }
-            Err(Why::NoMemory) => {
+            Err(NoMemory) => {
                 self.stop = Some(Stop::NoMemory);
                 Went::Halt
             }
-            Err(_) => unreachable!(),
         }
     }
 }

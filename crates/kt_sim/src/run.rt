@@ -1,14 +1,13 @@
 // A whole run.
 ghost use Rattle.std.specs.Prelude.{◌≡◌, ◌≢◌, ◌≤◌, ◌<◌, ℕ, IfOk, List, length};
-ghost use Rattle.kt_law.specs.declared.limits.TheConstants.{TASKS, WORKERS};
+ghost use Rattle.kt_law.specs.declared.limits.TheConstants.{WORKERS};
 ghost use Rattle.kt_prog.specs.Accepted.{IsAccepted};
 ghost use Rattle.kt_prog.specs.Objects.{elements_of, inputs_of};
 ghost use Rattle.kt_prog.specs.Outcome.{outcome_of};
 ghost use Rattle.kt_prog.specs.declared.runs.Outcome.TheVariants.{Limit, Rows};
-ghost use Rattle.kt_frames.specs.OnlyTasks.{HasOnlyTasks};
 ghost use Rattle.kt_sim.specs.Answering.{limit_ran};
-ghost use Rattle.kt_sim.specs.Simulated.{IsCalm};
-ghost use Rattle.kt_tables.specs.Tables.{MainIsFinished};
+ghost use Rattle.kt_sim.specs.Simulated.{IsCalm, IsOver};
+ghost use Rattle.kt_tables.specs.Tables.{MainIsFinished, count_indexes};
 
 use crate::choices::Choices;
 use crate::faults::least_fault;
@@ -17,11 +16,12 @@ use crate::turns::run_all;
 use kt_core::Core;
 use kt_law::NoMemory;
 use kt_prog::{Outcome, Program, Ran};
+use kt_tiles::Tiles;
 use sqlite_items::Items;
 use std::alloc::Global;
 
 /// Runs the program on this input by events of a core alone, with at most so many tasks under way at once, in an order that the
-/// number chooses: each number gives the answer of the reference run. Whole bodies follow one another.
+/// number chooses: each number gives the answer of the reference run. Whole bodies of tasks and of indexes follow one another.
 pub fn simulate<'a>(
     alloc: Global,
     program: &'a Program,
@@ -30,7 +30,6 @@ pub fn simulate<'a>(
     number: u64,
 ) -> Result<(Ran, Core<'a>), NoMemory>
     requires accepted { IsAccepted program.now }
-    requires tasks { HasOnlyTasks program.now }
     requires whole { length input.now ≡ inputs_of program.now.families }
     requires some { 1 ≤ workers }
     requires few { workers ≤ WORKERS }
@@ -41,14 +40,17 @@ pub fn simulate<'a>(
 {
     let core = Core::new(alloc, program, input)?;
     let mut choices = Choices::new(alloc, number)?;
+    let mut tiles = Tiles::new(alloc)?;
     let mut simulation = Simulation {
         core,
+        indexes: 0,
         task: 0,
+        index: None,
         stop: None,
     };
-    match run_all(&mut simulation, &mut choices, workers) {
+    match run_all(&mut simulation, &mut choices, &mut tiles, workers) {
         Ok(()) => {
-            let ran = answer(alloc, &simulation.core)?;
+            let ran = answer(alloc, &simulation.core, simulation.indexes)?;
             Ok((ran, simulation.core))
         }
         Err(Stop::Over) => {
@@ -59,9 +61,9 @@ pub fn simulate<'a>(
     }
 }
 
-/// What a run comes to that has more tasks than the limit allows.
+/// What a run comes to that has more tasks or indexes than the limits allow.
 fn over(core: &Core) -> Ran
-    requires { TASKS < length core.now.table.tasks }
+    requires { IsOver core.now }
     ensures ran { result ≡ outcome_of core.now.program core.now.input }
     ensures limit { result ≡ limit_ran }
 {
@@ -74,15 +76,15 @@ fn over(core: &Core) -> Ran
 }
 
 /// What a run comes to once `main` is finished: the least fault, or else the rows.
-fn answer(alloc: Global, core: &Core) -> Result<Ran, NoMemory>
+fn answer(alloc: Global, core: &Core, indexes: u32) -> Result<Ran, NoMemory>
     requires calm { IsCalm core.now }
+    requires counted { count_indexes core.now.table.tasks ≡ indexes }
     requires finished { MainIsFinished core.now.table.tasks }
     ensures ran { IfOk result (λ ran. ran ≡ outcome_of core.now.program core.now.input) }
     ensures rows { IfOk result (λ ran. (rows : List ℕ) → ran.outcome ≡ Rows rows → length rows ≡ elements_of core.now.program.families) }
 {
     core.gives_outcome();
     let tasks = core.tasks();
-    let indexes = 0;
     match least_fault(core) {
         Some(fault) => Ok(Ran {
             outcome: Outcome::Fault(fault),

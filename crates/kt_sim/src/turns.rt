@@ -1,62 +1,17 @@
 // The turns of a run: each does at least one event.
-ghost use Rattle.std.specs.Prelude.{◌≡◌, ◌<◌, All, None, length, IfOk};
+ghost use Rattle.std.specs.Prelude.{◌≡◌, ◌<◌, length, IfOk, IfSome};
 ghost use Rattle.kt_sim.specs.Choosing.{AreBelow};
-ghost use Rattle.kt_sim.specs.Simulated.{GoesOn, IsCalm, IsInPhase};
-ghost use Rattle.kt_tables.specs.TableEvents.{refusal, task_of};
-ghost use Rattle.kt_tables.specs.declared.events.Event.TheVariants.{Finish};
+ghost use Rattle.kt_sim.specs.Simulated.{GoesOn, IsCalm, IsCounted, IsInPhase};
 ghost use Rattle.kt_tables.specs.declared.events.Phase.TheVariants.{Running};
-ghost use Rattle.kt_sim.specs.Turns.{Ends, IsFree, IsOpen, IsOutside, Reaches, Does, Tries};
+ghost use Rattle.kt_sim.specs.Turns.{Ends, IsFree, IsOpen, Tries, TriesBody};
 
 use crate::bodies::run_task;
-use crate::choices::{Choices, pick_waiting};
+use crate::choices::{Choices, pick, pick_waiting};
+use crate::events::{do_event, finish, finish_up, try_event};
+use crate::loops::{loop_on, try_held};
 use crate::operations::{Simulation, Stop};
-use kt_core::{Core, Event, Phase, Why};
-
-/// Does a claim or a finish that nothing refuses.
-fn do_event(core: &mut Core, event: &Event) -> Result<(), Stop>
-    requires calm { IsCalm core.old }
-    requires outside { IsOutside event.now }
-    requires there { task_of event.now < length core.old.table.tasks }
-    requires free { refusal event.now core.old.table ≡ None }
-    ensures { Does core.old core.new result }
-{
-    match core.step(event) {
-        Ok(()) => Ok(()),
-        Err(Why::NoMemory) => Err(Stop::NoMemory),
-        Err(_) => unreachable!(),
-    }
-}
-
-/// Does a claim or a finish, or tells that it cannot be done now.
-fn try_event(core: &mut Core, event: &Event) -> Result<bool, Stop>
-    requires calm { IsCalm core.old }
-    requires outside { IsOutside event.now }
-    requires there { task_of event.now < length core.old.table.tasks }
-    ensures { Tries core.old core.new result }
-{
-    match core.step(event) {
-        Ok(()) => Ok(true),
-        Err(Why::NoMemory) => Err(Stop::NoMemory),
-        Err(_) => Ok(false),
-    }
-}
-
-/// Finishes a task, and then each task above it that has no child left.
-fn finish_up(core: &mut Core, parents: &[u32], task: u32) -> Result<(), Stop>
-    requires calm { IsCalm core.old }
-    requires count { length parents.now ≡ length core.old.table.tasks }
-    requires below { All (λ t. t < length core.old.table.tasks) parents.now }
-    requires there { task < length core.old.table.tasks }
-    ensures { Reaches core.old core.new result }
-{
-    let mut current = task;
-    'up: loop {
-        if !try_event(core, &Event::Finish(current))? {
-            return Ok(());
-        }
-        current = parents[current as usize];
-    }
-}
+use kt_core::{Core, Event, Phase};
+use kt_tiles::Tiles;
 
 /// The first task in the order of the reference run that can go on: all before it are finished.
 fn first_free(core: &Core) -> u32
@@ -108,25 +63,44 @@ fn claim_at(core: &mut Core, choices: &mut Choices, place: usize) -> Result<bool
 }
 
 /// The body of a claimed task, and what it lets finish.
-fn run_whole(simulation: &mut Simulation, choices: &mut Choices, task: u32) -> Result<(), Stop>
+fn run_whole(
+    simulation: &mut Simulation,
+    choices: &mut Choices,
+    tiles: &mut Tiles,
+    task: u32,
+) -> Result<(), Stop>
     requires calm { IsCalm simulation.old.core }
+    requires counted { IsCounted simulation.old }
     requires below { AreBelow (length simulation.old.core.table.tasks) choices.old }
     requires running { IsInPhase Running task simulation.old.core }
     ensures goes { GoesOn simulation.old.core simulation.new.core result }
+    ensures counted { IfOk result (λ _. IsCounted simulation.new) }
     ensures below { IfOk result (λ _. AreBelow (length simulation.new.core.table.tasks) choices.new) }
 {
     let before = simulation.core.tasks();
-    run_task(simulation, task)?;
+    run_task(simulation, tiles, task)?;
     choices.note_forks(task, before, simulation.core.tasks())?;
+    if simulation.core.phase(task).is_looping() {
+        choices.looping.push(task)?;
+        return Ok(());
+    }
     finish_up(&mut simulation.core, &choices.parents, task)
 }
 
-/// What comes next of a task that can go on: its claim, its body or its finish.
-fn go_on(simulation: &mut Simulation, choices: &mut Choices, task: u32) -> Result<(), Stop>
+/// What comes next of a task that can go on: its claim, its body, what its indexes want, or its finish.
+fn go_on(
+    simulation: &mut Simulation,
+    choices: &mut Choices,
+    tiles: &mut Tiles,
+    task: u32,
+    workers: u32,
+) -> Result<(), Stop>
     requires calm { IsCalm simulation.old.core }
+    requires counted { IsCounted simulation.old }
     requires below { AreBelow (length simulation.old.core.table.tasks) choices.old }
     requires free { IsFree task simulation.old.core }
     ensures goes { GoesOn simulation.old.core simulation.new.core result }
+    ensures counted { IfOk result (λ _. IsCounted simulation.new) }
     ensures below { IfOk result (λ _. AreBelow (length simulation.new.core.table.tasks) choices.new) }
 {
     match simulation.core.phase(task) {
@@ -135,70 +109,144 @@ fn go_on(simulation: &mut Simulation, choices: &mut Choices, task: u32) -> Resul
             choices.running.push(task)?;
             Ok(())
         }
-        Phase::Running => run_whole(simulation, choices, task),
-        Phase::Looping => finish(&mut simulation.core, &choices.parents, task),
-        Phase::Ended => finish(&mut simulation.core, &choices.parents, task),
+        Phase::Running => run_whole(simulation, choices, tiles, task),
+        Phase::Looping => loop_on(simulation, choices, task, workers),
+        Phase::Ended => {
+            simulation.core.is_lawful();
+            finish(&mut simulation.core, &choices.parents, task)
+        }
         Phase::Finished => unreachable!(),
     }
 }
 
-/// Finishes a task that has no child left, and what it lets finish.
-fn finish(core: &mut Core, parents: &[u32], task: u32) -> Result<(), Stop>
-    requires calm { IsCalm core.old }
-    requires count { length parents.now ≡ length core.old.table.tasks }
-    requires below { All (λ t. t < length core.old.table.tasks) parents.now }
-    requires there { task < length core.old.table.tasks }
-    requires free { refusal (Finish task) core.old.table ≡ None }
-    ensures { Does core.old core.new result }
+/// Some task that runs.
+fn running_task(core: &Core, choices: &mut Choices) -> Option<u32>
+    requires below { AreBelow (length core.now.table.tasks) choices.old }
+    ensures free { IfSome result (λ task. IsFree task core.now) }
+    ensures below { AreBelow (length core.now.table.tasks) choices.new }
 {
-    do_event(core, &Event::Finish(task))?;
-    finish_up(core, parents, parents[task as usize])
+    match choices.take_running() {
+        None => None,
+        Some(task) => {
+            if core.phase(task).is_running() {
+                Some(task)
+            } else {
+                None
+            }
+        }
+    }
 }
 
-/// Some task that runs, or else the first one that can go on.
+/// Some loop whose indexes are there.
+fn looping_task(core: &Core, choices: &mut Choices) -> Option<u32>
+    requires below { AreBelow (length core.now.table.tasks) choices.old }
+    ensures free { IfSome result (λ task. IsFree task core.now) }
+    ensures below { AreBelow (length core.now.table.tasks) choices.new }
+{
+    match pick(choices.looping.len(), &mut choices.random) {
+        None => None,
+        Some(place) => {
+            let task = choices.looping[place];
+            if !core.phase(task).is_looping() {
+                choices.looping.swap_remove(place);
+                return None;
+            }
+            match core.open_child(task) {
+                None => Some(task),
+                Some(_) => None,
+            }
+        }
+    }
+}
+
+/// Some task that runs, or some loop.
+fn chosen_task(core: &Core, choices: &mut Choices, runs: bool) -> Option<u32>
+    requires below { AreBelow (length core.now.table.tasks) choices.old }
+    ensures free { IfSome result (λ task. IsFree task core.now) }
+    ensures below { AreBelow (length core.now.table.tasks) choices.new }
+{
+    if runs {
+        running_task(core, choices)
+    } else {
+        looping_task(core, choices)
+    }
+}
+
+/// Some task that runs or loops, or else the first one that can go on.
 fn next_task(core: &Core, choices: &mut Choices) -> u32
     requires open { IsOpen core.now }
     requires below { AreBelow (length core.now.table.tasks) choices.old }
     ensures free { IsFree result core.now }
     ensures below { AreBelow (length core.now.table.tasks) choices.new }
 {
-    match choices.take_running() {
-        None => first_free(core),
-        Some(task) => match core.phase(task) {
-            Phase::Running => task,
-            Phase::Unclaimed | Phase::Looping | Phase::Ended | Phase::Finished => first_free(core),
+    let runs = choices.flips();
+    match chosen_task(core, choices, runs) {
+        Some(task) => task,
+        None => match chosen_task(core, choices, !runs) {
+            Some(task) => task,
+            None => first_free(core),
         },
     }
 }
 
-/// A claim of some task, if fewer than so many run, or else what comes next of some task.
-fn turn(simulation: &mut Simulation, choices: &mut Choices, workers: u32) -> Result<(), Stop>
+/// The body of some index that was taken, or a claim of some task, if fewer than so many are under way; or nothing.
+fn try_ahead(simulation: &mut Simulation, choices: &mut Choices, workers: u32) -> Result<bool, Stop>
     requires calm { IsCalm simulation.old.core }
+    requires counted { IsCounted simulation.old }
+    requires below { AreBelow (length simulation.old.core.table.tasks) choices.old }
+    ensures tries { TriesBody simulation.old.core simulation.new.core result }
+    ensures counted { IfOk result (λ _. IsCounted simulation.new) }
+    ensures below { IfOk result (λ _. AreBelow (length simulation.new.core.table.tasks) choices.new) }
+{
+    if choices.flips() {
+        return try_held(simulation, choices);
+    }
+    if choices.under_way() < workers as usize {
+        return try_claim(&mut simulation.core, choices);
+    }
+    Ok(false)
+}
+
+/// An index that was taken, a claim, or else what comes next of some task.
+fn turn(
+    simulation: &mut Simulation,
+    choices: &mut Choices,
+    tiles: &mut Tiles,
+    workers: u32,
+) -> Result<(), Stop>
+    requires calm { IsCalm simulation.old.core }
+    requires counted { IsCounted simulation.old }
     requires below { AreBelow (length simulation.old.core.table.tasks) choices.old }
     requires open { IsOpen simulation.old.core }
     ensures goes { GoesOn simulation.old.core simulation.new.core result }
+    ensures counted { IfOk result (λ _. IsCounted simulation.new) }
     ensures below { IfOk result (λ _. AreBelow (length simulation.new.core.table.tasks) choices.new) }
 {
-    if choices.running.len() < workers as usize {
-        if try_claim(&mut simulation.core, choices)? {
-            return Ok(());
-        }
+    if try_ahead(simulation, choices, workers)? {
+        return Ok(());
     }
     let task = next_task(&simulation.core, choices);
-    go_on(simulation, choices, task)
+    go_on(simulation, choices, tiles, task, workers)
 }
 
 /// All turns of a run, until `main` is finished.
-pub fn run_all(simulation: &mut Simulation, choices: &mut Choices, workers: u32) -> Result<(), Stop>
+pub fn run_all(
+    simulation: &mut Simulation,
+    choices: &mut Choices,
+    tiles: &mut Tiles,
+    workers: u32,
+) -> Result<(), Stop>
     requires calm { IsCalm simulation.old.core }
+    requires counted { IsCounted simulation.old }
     requires below { AreBelow (length simulation.old.core.table.tasks) choices.old }
     requires main { 0 < length simulation.old.core.table.tasks }
-    ensures { Ends simulation.old.core simulation.new.core result }
+    ensures ends { Ends simulation.old.core simulation.new.core result }
+    ensures counted { IfOk result (λ _. IsCounted simulation.new) }
 {
     'turns: loop {
         if simulation.core.phase(0).is_finished() {
             return Ok(());
         }
-        turn(simulation, choices, workers)?;
+        turn(simulation, choices, tiles, workers)?;
     }
 }

@@ -5,7 +5,7 @@ ghost use Rattle.kt_prog.specs.Accepted.{IsAccepted};
 
 use crate::jobs::opened;
 use kt_core::{Core, Phase};
-use kt_frames::{has_only_tasks, run_owner};
+use kt_frames::run_owner;
 use kt_law::F;
 use kt_prog::{Outcome, Program, Ran, inputs, laws};
 use kt_sim::simulate;
@@ -139,8 +139,6 @@ fn simulated<'a>(
     requires few { workers ≤ WORKERS }
 {
     laws::few_objects();
-    let only = has_only_tasks(program);
-    assert!(rt; only);
     let wanted = inputs(program) as usize;
     assert!(rt; wanted == input.len());
     Ok(simulate(alloc, program, input, workers, number)?)

@@ -1,7 +1,7 @@
 use Rattle.std.proofs.Common.{◌≡◌, ◌<◌, ◌+◌, suc, length, ap, ◌∙◌, arith, drop}
-use Rattle.kt_sim.specs.Answering.{lesser, least_with}
+use Rattle.kt_sim.specs.Answering.{least_with}
 use Rattle.kt_tables.specs.TableLaws.{faults_in}
-use Rattle.kt_sim.proofs.Events.{row_there}
+use Rattle.kt_sim.proofs.Outside.{row_there}
 use Rattle.kt_sim.proofs.LeastFaults.{least_step}
 use Rattle.kt_sim.proofs.faults.least_fault.Goals as goal
 
@@ -13,5 +13,5 @@ loop-task-preserved c =
     let below : k < length tasks = omega (arith, c.loop-task-test.true, c.tasks-task-end.ensures) in
     let r = row_there tasks k below in
     let next : k + 1 ≡ suc k = omega arith in
-    ap (λ o. least_with o (faults_in p (drop (k + 1) tasks))) (c.least_of-least.ensures ∙ ap (lesser c.loop-task.least) (c.fault.ensures r.0 r.1))
-    ∙ least_step p tasks k (k + 1) r.0 c.loop-task.least next (c.requires k r.0 r.1) r.1 ∙ c.loop-task.invariant
+    ap (λ o. least_with o (faults_in p (drop (k + 1) tasks))) (c.least_at-least.ensures r.0 r.1)
+    ∙ least_step p tasks k (k + 1) r.0 c.loop-task.least next r.1 ∙ c.loop-task.invariant

@@ -1,5 +1,5 @@
 use Rattle.kt_sim.proofs.Turning.{tried}
-use Rattle.kt_sim.proofs.turns.finish_up.Goals as goal
+use Rattle.kt_sim.proofs.events.finish_up.Goals as goal
 
 pub up-smaller : goal.up-smaller
 up-smaller c =

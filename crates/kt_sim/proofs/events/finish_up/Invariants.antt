@@ -1,6 +1,7 @@
 use Rattle.std.proofs.Common.{◌<◌, length}
-use Rattle.kt_sim.specs.Turns.{Leads, left_in}
-use Rattle.kt_sim.proofs.turns.finish_up.Given as goal
+use Rattle.kt_sim.specs.Left.{left_in}
+use Rattle.kt_sim.specs.Turns.{Leads}
+use Rattle.kt_sim.proofs.events.finish_up.Given as goal
 
 abbrev pub invariant-up : goal.invariant-up
 invariant-up l = record { leads : Leads l.initial.core l.core; there : l.current < length l.core.table.tasks }

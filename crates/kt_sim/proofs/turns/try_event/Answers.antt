@@ -1,7 +1,0 @@
-use Rattle.kt_sim.proofs.Events.{event_leads}
-use Rattle.kt_sim.proofs.turns.try_event.Goals as goal
-
-pub returns-in-Ok : goal.returns-in-Ok
-returns-in-Ok c =
-    event_leads c.args.event.now c.args.core.now c.step.new.self c.requires.calm c.requires.outside c.requires.there (c.in-Ok.ensures {u = tt}).reply
-    (c.in-Ok.ensures {u = tt}).done
