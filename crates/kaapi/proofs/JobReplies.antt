@@ -7,12 +7,14 @@ use Rattle.kt_prog.specs.Accepted.{IsAccepted}
 use Rattle.kt_prog.specs.Refusals.{refusal_of, noted}
 use Rattle.kt_prog.specs.declared.programs.Program.{Program}
 use Rattle.kt_print.specs.declared.lines.Line.{Line}
-use Rattle.kt_open.specs.Answers.{Answered, IsAnswer, IsRefused, answered_line}
+use Rattle.kt_open.specs.Answers.{Answered, IsAnswer, IsRefused, Unopens, answered_line}
+use Rattle.kt_open.specs.Answers.{IsAnswer as I, Unopens as U}
 use Rattle.kt_open.specs.Answers.IsRefused.{unread, broken}
 use Rattle.kt_read.specs.Jobs.{IsJob}
 use Rattle.kt_read.specs.Laws.{OneJob, JobIsRead}
 use Rattle.kaapi.specs.Answers.{told}
 use Rattle.kaapi.specs.Exits.{number_of}
+use Rattle.kaapi.specs.Jobs.{exit_of}
 use Rattle.kaapi.specs.declared.exits.Exit.{Exit}
 
 -- what follows for each value
@@ -40,7 +42,9 @@ never_accepted one_job is_read bytes r (broken {p = q} {from = place} other h) p
     let same = (one_job bytes p q from place job other).0 in
     not_accepted q r h (subst IsAccepted same accepted)
 
-pub same_kind : OneJob → (is_run : Program → Bool) (bytes : List ℕ) (p q : Program) (from place : ℕ) → IsJob bytes p from → is_run p ≡ true
-    → IsJob bytes q place → is_run q ≡ true
-same_kind one_job is_run bytes p q from place job built other =
-    subst (λ p. is_run p ≡ true) (one_job bytes p q from place job other).0 built
+-- the line of a job that has no run
+pub by_line : (bytes : List ℕ) (status : ℕ) (line : Line) → Unopens bytes status line → IsAnswer bytes (answered_line (number_of (exit_of line)) line)
+by_line bytes status line (U.refused h) = I.unopened (U.refused h)
+by_line bytes status line (U.bad_number opens h) = I.unopened (U.bad_number opens h)
+by_line bytes status line (U.too_few opens h) = I.unopened (U.too_few opens h)
+by_line bytes status line (U.too_many opens h) = I.unopened (U.too_many opens h)

@@ -12,7 +12,6 @@ use Rattle.kt_text.specs.declared.data.DataError.{DataError}
 use Rattle.kt_text.specs.declared.data.DataError.TheVariants as D
 use Rattle.kt_prog.specs.Accepted.{IsAccepted}
 use Rattle.kt_prog.specs.Objects.{inputs_of}
-use Rattle.kt_frames.specs.OnlyTasks.{only_tasks}
 use Rattle.kt_prog.specs.Outcome.{outcome_of}
 use Rattle.kt_prog.specs.Refusals.{refusal_of}
 use Rattle.kt_prog.specs.declared.programs.Program.{Program}
@@ -28,15 +27,11 @@ use Rattle.kt_read.specs.Laws.{OneJob, OneRefusal, JobIsRead}
 use Rattle.kaapi.specs.Answers.{AnswersCheck, AnswersRun, AnswersJob, AnswersCommand, told}
 use Rattle.kaapi.specs.Answers.{AnswersCheck as K}
 use Rattle.kaapi.specs.Answers.AnswersJob.{too_long, within}
-use Rattle.kaapi.specs.Answers.AnswersRun.{mixed, run}
 use Rattle.kaapi.specs.Exits.{number_of}
 use Rattle.kaapi.specs.Laws.{OneAnswer}
 use Rattle.kaapi.specs.declared.exits.Exit.{Exit}
 use Rattle.kaapi.specs.declared.exits.Exit.TheVariants as E
 use Rattle.kaapi.proofs.JobReplies.{answered_by, never_accepted, not_accepted}
-
-both : {b : Bool} → b ≡ true → b ≡ false → ⊥
-both t f = cc
 
 same_some : {A : Type 0} {o : Option A} {a b : A} → o ≡ Some a → o ≡ Some b → a ≡ b
 same_some h k = cc
@@ -129,7 +124,7 @@ module _ (one_job : OneJob) (one_refusal : OneRefusal) (is_read : JobIsRead) whe
   abbrev exit_of : ℕ → Exit
   exit_of n =
       get_or
-      (E.Done ∷ E.Done ∷ E.Usage ∷ E.ReadFault ∷ E.WriteFault ∷ E.Refused ∷ E.BadData ∷ E.Fault ∷ E.Limit ∷ E.TooLong ∷ E.NoMemory ∷ E.NotBuilt ∷ []) n
+      (E.Done ∷ E.Done ∷ E.Usage ∷ E.ReadFault ∷ E.WriteFault ∷ E.Refused ∷ E.BadData ∷ E.Fault ∷ E.Limit ∷ E.TooLong ∷ E.NoMemory ∷ []) n
       E.Done
 
   its_exit : (a : Exit) → exit_of (number_of a) ≡ a
@@ -143,7 +138,6 @@ module _ (one_job : OneJob) (one_refusal : OneRefusal) (is_read : JobIsRead) whe
   its_exit E.Limit = refl
   its_exit E.TooLong = refl
   its_exit E.NoMemory = refl
-  its_exit E.NotBuilt = refl
 
   same_reply : (a b : Said Exit) → answered_by a ≡ answered_by b → a ≡ b
   same_reply a b h =
@@ -151,11 +145,8 @@ module _ (one_job : OneJob) (one_refusal : OneRefusal) (is_read : JobIsRead) whe
       let texts : a.text ≡ b.text = ap (λ (x : Answered). x.text) h in
       ap (λ exit. let r : Said Exit = record { exit = exit; text = a.text } in r) exits ∙ ap (λ text. let r : Said Exit = record { exit = b.exit; text = text } in r) texts
 
-  one_run_answer : (is_run : Program → Bool) (job : List ℕ) (a b : Said Exit) → AnswersRun is_run job a → AnswersRun is_run job b → a ≡ b
-  one_run_answer is_run job a b (mixed reads accepted no_tasks) (mixed other also none) = refl
-  one_run_answer is_run job a b (mixed {p} {from} reads accepted more) (run only k) = absurd (both (only p from reads accepted) more)
-  one_run_answer is_run job a b (run only h) (mixed {p} {from} reads accepted more) = absurd (both (only p from reads accepted) more)
-  one_run_answer is_run job a b (run only h) (run also k) = same_reply a b (one_run job (answered_by a) (answered_by b) h k)
+  one_run_answer : (job : List ℕ) (a b : Said Exit) → AnswersRun job a → AnswersRun job b → a ≡ b
+  one_run_answer job a b h k = same_reply a b (one_run job (answered_by a) (answered_by b) h k)
 
   one_job_answer : (Given : List ℕ → Said Exit → Type 0) (job : List ℕ) → ((a b : Said Exit) → Given job a → Given job b → a ≡ b)
       → (a b : Said Exit) → AnswersJob Given job a → AnswersJob Given job b → a ≡ b
@@ -166,8 +157,8 @@ module _ (one_job : OneJob) (one_refusal : OneRefusal) (is_read : JobIsRead) whe
 
   one_command : (command : Option Command) (job : List ℕ) (a b : Said Exit) → AnswersCommand command job a → AnswersCommand command job b → a ≡ b
   one_command (Some C.Check) job a b h k = one_job_answer AnswersCheck job (one_check job) a b h k
-  one_command (Some C.Seq) job a b h k = one_job_answer (AnswersRun (λ p. true)) job (one_run_answer (λ p. true) job) a b h k
-  one_command (Some (C.Sim workers number)) job a b h k = one_job_answer (AnswersRun only_tasks) job (one_run_answer only_tasks job) a b h k
+  one_command (Some C.Seq) job a b h k = one_job_answer AnswersRun job (one_run_answer job) a b h k
+  one_command (Some (C.Sim workers number)) job a b h k = one_job_answer AnswersRun job (one_run_answer job) a b h k
   one_command (Some (C.Gen kind size number)) job a b h k = h ∙ sym k
   one_command (Some (C.Run workers)) job a b h k = h ∙ sym k
   one_command (Some (C.Demo kind size number workers)) job a b h k = h ∙ sym k

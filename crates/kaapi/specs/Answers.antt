@@ -1,5 +1,5 @@
 -- What the words and a job are answered: an exit and a text.
-use Rattle.std.specs.Prelude.{◌≡◌, ◌≤◌, ◌<◌, ℕ, List, length, codes, Bool, true, false, Option, Some, None}
+use Rattle.std.specs.Prelude.{◌≡◌, ◌≤◌, ◌<◌, ℕ, List, length, Bool, true, false, Option, Some, None}
 use Rattle.kt_io.specs.Ending.{Said, Faults}
 use Rattle.kt_law.specs.declared.limits.TheConstants.{JOB}
 use Rattle.kt_law.specs.declared.places.Refusal.{Refusal}
@@ -9,7 +9,6 @@ use Rattle.kt_text.specs.declared.commands.Kind.{Kind}
 use Rattle.kt_text.specs.declared.commands.Command.{Command}
 use Rattle.kt_text.specs.declared.commands.Command.TheVariants as C
 use Rattle.kt_prog.specs.Accepted.{IsAccepted}
-use Rattle.kt_frames.specs.OnlyTasks.{only_tasks}
 use Rattle.kt_prog.specs.declared.programs.Program.{Program}
 use Rattle.kt_print.specs.CanonicalText.{canonical_text}
 use Rattle.kt_print.specs.Lines.{line_of}
@@ -22,8 +21,6 @@ use Rattle.kaapi.specs.declared.exits.Exit.{Exit}
 use Rattle.kaapi.specs.declared.exits.Exit.TheVariants as E
 use Rattle.kaapi.specs.declared.asked.Asked.{Asked}
 use Rattle.kaapi.specs.declared.asked.Asked.TheVariants as A
-use Rattle.kaapi.specs.declared.asked.Way.{Way}
-use Rattle.kaapi.specs.declared.asked.Way.TheVariants as W
 
 -- the exits that are no answers
 abbrev pub faults : Faults Exit
@@ -31,10 +28,6 @@ faults = record { read_fault = E.ReadFault; write_fault = E.WriteFault; no_memor
 
 abbrev pub told : Exit → Line → Said Exit
 told exit line = record { exit = exit; text = line_of line }
-
--- of what is not built yet
-abbrev pub not_built : Said Exit
-not_built = record { exit = E.NotBuilt; text = codes "not built\n" }
 
 -- the generated job
 abbrev pub generated : Kind → ℕ → ℕ → Said Exit
@@ -45,20 +38,13 @@ pub data AnswersCheck (job : List ℕ) : Said Exit → Type 0 where
   refused : {r : Refusal} → IsRefused job r → AnswersCheck job (told E.Refused (L.Refused r))
   printed : {p : Program} {from : ℕ} → IsJob job p from → IsAccepted p → AnswersCheck job (record { exit = E.Done; text = canonical_text p })
 
--- to `seq` and to `sim`: what the job is answered that is run, unless its program is accepted and is of those that aren't run yet
-pub data AnswersRun (is_run : Program → Bool) (job : List ℕ) : Said Exit → Type 0 where
-  mixed : {p : Program} {from : ℕ} → IsJob job p from → IsAccepted p → is_run p ≡ false → AnswersRun is_run job not_built
-  run : {reply : Said Exit} → ((p : Program) (from : ℕ) → IsJob job p from → IsAccepted p → is_run p ≡ true) →
-      IsAnswer job (record { status = number_of reply.exit; text = reply.text }) → AnswersRun is_run job reply
-
--- `seq` runs every program, `sim` those that fork tasks alone
-abbrev pub run_by : Way → Program → Bool
-run_by W.Owner p = true
-run_by (W.Events choice) p = only_tasks p
+-- to `seq` and to `sim`: what the job is answered that is run
+abbrev pub AnswersRun : List ℕ → Said Exit → Type 0
+AnswersRun job reply = IsAnswer job (record { status = number_of reply.exit; text = reply.text })
 
 abbrev pub AnswersAsked : Asked → List ℕ → Said Exit → Type 0
 AnswersAsked A.Check job reply = AnswersCheck job reply
-AnswersAsked (A.Run way) job reply = AnswersRun (run_by way) job reply
+AnswersAsked (A.Run way) job reply = AnswersRun job reply
 
 -- to words that ask for an answer to a job, of which there may be so many bytes; `Given` says what a job of so few is answered
 pub data AnswersJob (Given : List ℕ → Said Exit → Type 0) (job : List ℕ) : Said Exit → Type 0 where
@@ -68,8 +54,8 @@ pub data AnswersJob (Given : List ℕ → Said Exit → Type 0) (job : List ℕ)
 -- to what the words ask for
 abbrev pub AnswersCommand : Option Command → List ℕ → Said Exit → Type 0
 AnswersCommand (Some C.Check) job reply = AnswersJob AnswersCheck job reply
-AnswersCommand (Some C.Seq) job reply = AnswersJob (AnswersRun (λ p. true)) job reply
-AnswersCommand (Some (C.Sim workers number)) job reply = AnswersJob (AnswersRun only_tasks) job reply
+AnswersCommand (Some C.Seq) job reply = AnswersJob AnswersRun job reply
+AnswersCommand (Some (C.Sim workers number)) job reply = AnswersJob AnswersRun job reply
 AnswersCommand (Some (C.Gen kind size number)) job reply = reply ≡ generated kind size number
 AnswersCommand (Some (C.Run workers)) job reply = reply ≡ told E.Usage L.Usage
 AnswersCommand (Some (C.Demo kind size number workers)) job reply = reply ≡ told E.Usage L.Usage

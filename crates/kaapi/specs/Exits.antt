@@ -14,4 +14,3 @@ number_of E.Fault = 7
 number_of E.Limit = 8
 number_of E.TooLong = 9
 number_of E.NoMemory = 10
-number_of E.NotBuilt = 11

@@ -25,8 +25,6 @@ pub enum Exit {
     TooLong,
     /// There was no memory, and nothing was written.
     NoMemory,
-    /// The words or the job ask for what is not built.
-    NotBuilt,
 }
 
 impl Exit {
@@ -45,7 +43,6 @@ impl Exit {
             Exit::Limit => 8,
             Exit::TooLong => 9,
             Exit::NoMemory => 10,
-            Exit::NotBuilt => 11,
         }
     }
 }

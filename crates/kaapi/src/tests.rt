@@ -255,16 +255,6 @@ fn runs_end_in_faults_and_limits(rt: HostRuntime) -> Result<(), Fail> {
     end_alike(&rt, rt.alloc(), &cases)
 }
 
-// Loops and kernels are run in reference order, and not yet by events.
-fn end_in_order(rt: &impl Abort, alloc: Global, cases: &[Case]) -> Result<(), Fail> {
-    end_whole(rt, alloc, cases)?;
-    for case in cases {
-        let unbuilt = answers("sim 3 7", case.job, Exit::NotBuilt, "not built\n");
-        ends(rt, alloc, &unbuilt, (100, 100), (0, 0))?;
-    }
-    Ok(())
-}
-
 #[test]
 fn loops_and_kernels_are_run(rt: HostRuntime) -> Result<(), Fail> {
     let cases = [
@@ -289,7 +279,7 @@ fn loops_and_kernels_are_run(rt: HostRuntime) -> Result<(), Fail> {
         answers("seq", WALKS, Exit::Done, WALK_ROWS),
         answers("seq", SUMS, Exit::Done, SUM_ROW),
     ];
-    end_in_order(&rt, rt.alloc(), &cases)
+    end_alike(&rt, rt.alloc(), &cases)
 }
 
 #[test]

@@ -1,5 +1,6 @@
 // A job is opened: its program is read and checked, and its data are read.
 ghost use Rattle.std.specs.Prelude.{◌≡◌, ◌<◌, length, IfErr, IfOk};
+ghost use Rattle.kt_prog.specs.Objects.{inputs_of};
 ghost use Rattle.kt_open.specs.Answers.{Opened};
 ghost use Rattle.kt_open.specs.Unopened.{IsUnopened};
 
@@ -23,6 +24,7 @@ pub enum Unopened {
 pub fn open_job(alloc: Global, job: &[u8]) -> Result<(Program, Vec<u64>), Unopened>
     requires { length job.now < u32.MAX }
     ensures opened { IfOk result (λ opened. Opened job.now opened.0 opened.1.items) }
+    ensures whole { IfOk result (λ opened. length opened.1.items ≡ inputs_of opened.0.families) }
     ensures unopened { IfErr result (IsUnopened job.now) }
 {
     few_objects();

@@ -14,4 +14,4 @@ returns-in-Refused c =
 pub returns-in_ok-text-in-Accepted : goal.returns-in_ok-text-in-Accepted
 returns-in_ok-text-in-Accepted c =
     let h = rw c.in-Accepted.is at c.in_ok-refusal.ensures in
-    rw (c.new.ensures, c.in_ok-text-in-Accepted.ensures) (printed h.0 h.1)
+    rw (c.new.ensures, c.in_ok-text-in-Accepted.ensures) (printed h.1 h.2)

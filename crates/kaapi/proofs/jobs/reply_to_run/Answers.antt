@@ -1,28 +1,23 @@
-use Rattle.std.proofs.Common.{◌≡◌, sym, ◌∙◌}
-use Rattle.kt_print.specs.declared.lines.Line.TheVariants as L
-use Rattle.kt_open.specs.Answers.{IsAnswer}
-use Rattle.kt_open.specs.Answers.{IsAnswer as I, Unopens as U}
-use Rattle.kaapi.specs.Answers.{run_by, told}
-use Rattle.kaapi.specs.Answers.AnswersRun.{mixed, run}
-use Rattle.kaapi.specs.declared.exits.Exit.TheVariants as E
-use Rattle.kaapi.proofs.JobReplies.{answered_by, never_accepted, of_line, ok_then, same_kind}
+use Rattle.std.proofs.Common.{◌≡◌, sym, subst, ◌∙◌, ap}
+use Rattle.kt_prog.specs.Outcome.{outcome_of}
+use Rattle.kt_open.specs.Answers.{IsAnswer, answered_run}
+use Rattle.kt_open.specs.Answers.{IsAnswer as I}
+use Rattle.kaapi.specs.Answers.{told}
+use Rattle.kaapi.specs.Jobs.{exit_of}
+use Rattle.kaapi.specs.declared.exits.Exit.{Exit}
+use Rattle.kaapi.proofs.JobReplies.{answered_by, by_line, of_line, ok_then}
 use Rattle.kaapi.proofs.jobs.reply_to_run.Goals as goal
 
-pub returns-in-Refused : goal.returns-in-Refused
-returns-in-Refused c =
-    let h = rw c.in-Refused.is at c.in_ok-refusal.ensures in
-    ok_then _ (λ reply. reply ≡ told E.Refused (L.Refused c.in-Refused.refusal)) _ c.reply_with.ensures (λ reply same.
-    run (λ p from job accepted. absurd (never_accepted c.one_job.ensures c.job_is_read.ensures _ _ h p from job accepted))
-    (of_line _ E.Refused (L.Refused c.in-Refused.refusal) reply (I.unopened (U.refused h)) same))
+pub returns-in-Ok : goal.returns-in-Ok
+returns-in-Ok c =
+    let answer = I.ran c.in-Ok.ensures.opened in
+    let same = rw c.deref.ensures.value at c.run.ensures in
+    ok_then _ (λ reply. answered_by reply ≡ answered_run c.in-Ok.program.families (outcome_of c.in-Ok.program c.in-Ok.input.items).outcome) _ same
+    (λ reply is. subst (IsAnswer c.args.job.now) (sym is) answer)
 
-pub returns-then-is_run : goal.returns-then-is_run
-returns-then-is_run c =
-    let h = rw c.in-Accepted.is at c.in_ok-refusal.ensures in
-    let only = sym c.is_run.ensures ∙ c.if-is_run.true in
-    ok_then _ (λ reply. IsAnswer c.args.job.now (answered_by reply)) _ c.reply_to_data.ensures
-    (λ reply answer. run (λ p from job accepted. same_kind c.one_job.ensures (run_by c.args.way) _ _ p _ from h.0 only job) answer)
-
-pub returns : goal.returns
-returns c =
-    let h = rw c.in-Accepted.is at c.in_ok-refusal.ensures in
-    rw (c.new.ensures, c.in_ok-from_slice-in-Accepted.ensures.items) (mixed h.0 h.1 (sym c.is_run.ensures ∙ c.if-is_run.false))
+pub returns-in-Err-Line : goal.returns-in-Err-Line
+returns-in-Err-Line c =
+    let h = rw c.in-Err-Line.field-0-is at c.in-Err-Line.ensures.unopened in
+    ok_then _ (λ reply. reply ≡ told c.exit_of.result c.in-Err-Line.line) _ (rw c.in-Err-Line.field-0-is at c.reply_with.ensures)
+    (λ reply same. of_line c.args.job.now (exit_of c.in-Err-Line.line) c.in-Err-Line.line reply (by_line c.args.job.now h.0 c.in-Err-Line.line h.1)
+    (same ∙ ap (λ (exit : Exit). told exit c.in-Err-Line.line) (rw c.in-Err-Line.field-0-is at c.exit_of.ensures)))

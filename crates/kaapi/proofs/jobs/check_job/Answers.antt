@@ -1,5 +1,5 @@
 use Rattle.kt_open.specs.Answers.IsRefused.{unread, broken}
-use Rattle.kaapi.proofs.jobs.open.Goals as goal
+use Rattle.kaapi.proofs.jobs.check_job.Goals as goal
 
 pub returns-in-Err-Refused : goal.returns-in-Err-Refused
 returns-in-Err-Refused c = rw c.in-Err-Refused.refusal-is (unread (rw c.in-Err-Refused.field-0-is at c.in-Err-Refused.ensures.refused))
