@@ -1,6 +1,5 @@
-//! The generated jobs: programs of four kinds, of a size, with numbers drawn from one number.
-//!
-//! Not proved yet: that a generated job keeps the limits of a run and has no fault.
+//! The generated jobs: programs of four kinds, of a size, with numbers drawn from one number. That their runs keep the
+//! limits and have no fault is a law of `kt_gen_runs`.
 #![tactic(auto)]
 
 mod making;

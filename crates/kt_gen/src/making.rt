@@ -6,6 +6,7 @@ ghost use Rattle.kt_canon.specs.Laws.{IsWritten};
 ghost use Rattle.kt_gen.specs.Jobs.{IsReadAs, IsSize, job_text};
 ghost use Rattle.kt_gen.specs.Numbers.{numbers_of};
 ghost use Rattle.kt_gen.specs.Texts.{program_text};
+ghost use Rattle.kt_gen.specs.Trees.{program_of};
 
 use crate::numbers::Drawing;
 use crate::programs::program;
@@ -23,6 +24,7 @@ pub fn make(
     number: u64,
 ) -> Result<(Program, Vec<u64>), NoMemory>
     requires { IsSize kind size }
+    ensures program { IfOk result (λ made. made.0 ≡ program_of kind size) }
     ensures text { IfOk result (λ made. canonical_text made.0 ≡ program_text kind size) }
     ensures written { IfOk result (λ made. IsWritten made.0) }
     ensures accepted { IfOk result (λ made. IsAccepted made.0) }

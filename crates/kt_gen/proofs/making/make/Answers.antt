@@ -11,6 +11,9 @@ use Rattle.kt_gen.proofs.TreeTexts.{text_is}
 use Rattle.kt_gen.proofs.Written.{written}
 use Rattle.kt_gen.proofs.making.make.Goals as goal
 
+pub returns-clause-program : goal.returns-clause-program
+returns-clause-program c = c.in_ok-program.ensures ∙ ap (program_of c.args.kind) c.from-size.ensures
+
 pub returns-clause-text : goal.returns-clause-text
 returns-clause-text c =
     let is = c.in_ok-program.ensures ∙ ap (program_of c.args.kind) c.from-size.ensures in

@@ -1,0 +1,12 @@
+pub mod Quiet
+pub mod Runs
+pub mod Values
+pub mod Passing
+pub mod Kernels
+pub mod Forking
+pub mod Tiles
+pub mod Products
+pub mod Stencils
+pub mod Walks
+pub mod Scans
+pub mod Limits
