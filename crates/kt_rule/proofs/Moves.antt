@@ -27,7 +27,7 @@ use Rattle.kt_rule.specs.Lists.{times, In}
 use Rattle.kt_rule.specs.Lies.{Posted, Lie, Lies, Cored, phase_of, is_gone}
 use Rattle.kt_rule.specs.Records.{layout_of, word_at, elements, drawn_at, stop_at, own_record}
 use Rattle.kt_rule.specs.Views.{spot_path, path_of, promise_path, mine_in, claimed_in, promised_in, given_in, begun_in, drawn_in, main_berth}
-use Rattle.kt_rule.specs.Facts.{is_there, is_claimed, is_promised, is_given, is_begun, tally, Words, IsSo, IsUnderWay, IsOver, IsKnownFinished, IsGiven, Owns, Fits, waiting, Drawn, Stopped}
+use Rattle.kt_rule.specs.Facts.{is_there, is_claimed, is_promised, is_given, is_begun, tally, Words, IsSo, IsUnderWay, IsOver, IsPublished, IsKnownFinished, IsGiven, Owns, Fits, waiting, Drawn, Stopped}
 use Rattle.kt_rule.specs.Requests.{IsPromised, Desked, Asked}
 use Rattle.kt_rule.specs.Rule.{Slots, Facts}
 use Rattle.kt_rule.proofs.Puts.{put_here, put_else, put_cases, at_put}
@@ -223,6 +223,7 @@ fits_keep j lies ws lies' ws' k seat v f owns stop same = record {
   known = λ p i. known_keeps (layout_of j) lies ws lies' ws' k p (f.known p i);
   notes = λ n i. note_keeps (layout_of j) lies ws lies' ws' k n (f.notes n i);
   stop = λ e. stop (f.stop e);
+  line = λ m i. berth_keeps (layout_of j) lies ws lies' ws' k m.path m.berth (f.line m i);
 }
 
 -- A TURN OF ONE TASK
@@ -353,6 +354,7 @@ turned j lies s p t u ws' id v tasks known f at live o =
         ];
         notes = λ n i. note_keeps l lies s.words lies' ws' keeps n (fit.notes n i);
         stop = λ e. stop (fit.stop e);
+        line = λ m i. berth_keeps l lies s.words lies' ws' keeps m.path m.berth (fit.line m i);
       };
       others = λ k x n e. let a = o.alone k x n e in let a0 = a.0 in
           let a1 = a.1 in fits_keep j lies s.words lies' ws' keeps k x (f.fits k x e) (owns k x (seat_in k x e)) stop
@@ -367,8 +369,9 @@ pub learned : (j : Setup) (lies : Lies) (s : State Slots View) → Facts j lies 
     → 0 < v.parts → (seen : Seen)
     → ((p : Path) → In p seen.known → IsKnownFinished lies p) → ((n : Note) → In n seen.notes → IsSo (layout_of j) lies s.words n)
     → (seen.stop ≡ true → word_at (layout_of j) s.words stop_at ≡ 1)
+    → ((m : Spot) → In m seen.line → IsPublished lies m)
     → Facts j lies record { words = s.words; homes = s.homes; views = set s.views id (record v { seen = seen }) }
-learned j lies s f id v at live seen known notes stop = let w : View = record v { seen = seen } in let fit = f.fits id v at in
+learned j lies s f id v at live seen known notes stop line = let w : View = record v { seen = seen } in let fit = f.fits id v at in
     assemble j lies lies s s.words id v w f at live (record {
       parts = refl;
       made = refl;
@@ -397,6 +400,7 @@ learned j lies s f id v at live seen known notes stop = let w : View = record v 
         known = known;
         notes = notes;
         stop = stop;
+        line = line;
       };
       others = λ k x n e. f.fits k x e;
       unmade = λ a from less z. z;

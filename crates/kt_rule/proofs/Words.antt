@@ -300,6 +300,8 @@ module _ (l : Layout) (lies : Lies) (ws : List ℕ) (p : Path) (t u : Lie) (ws' 
     parents = λ q i y z e d. let x = turn_back (child q i) y e in
         let o = turn_back q z d in ap (λ (b : Berth). b.parent) x.same.berth ∙
         (wd.parents q i x.x o.x x.is o.is ∙ ap suc (sym (same_at o.x z o.same)));
+    above = λ q i y z e d live. let x = turn_back (child q i) y e in let o = turn_back q z d in
+        o.gone ∙ wd.above q i x.x o.x x.is o.is (sym x.gone ∙ live);
     heads = λ a less. subst IsHeadAt (sym (it.later a 0 less (omega arith))) (wd.heads a less);
     accesses = λ a k less few. let e : suc (12 + k) ≡ 13 + k = omega arith in
         subst (λ (g : ℕ). IsAccessAt l.objects (word_at l ws' (record_word a g))) e

@@ -122,6 +122,9 @@ pub record Words (l : Layout) (lies : Lies) (ws : List ℕ) : Type 0 where
       → (is_gone t.stage ≡ is_gone u.stage) × (t.berth.frame ≡ u.berth.frame) × (t.berth.at + k ≡ u.berth.at + i)
   pub numbered : (q : Path) (i : ℕ) (t : Lie) → lies (child q i) ≡ some t → t.berth.fork ≡ suc i
   pub parents : (q : Path) (i : ℕ) (t u : Lie) → lies (child q i) ≡ some t → lies q ≡ some u → t.berth.parent ≡ suc u.berth.at
+  -- a task above one that lives does so too
+  pub above : (q : Path) (i : ℕ) (t u : Lie) → lies (child q i) ≡ some t → lies q ≡ some u → is_gone t.stage ≡ false
+      → is_gone u.stage ≡ false
   -- whoever reads a record while it is written finds packed words
   pub heads : (a : ℕ) → a < RECORDS * l.workers → IsHeadAt (word_at l ws (record_word a 1))
   pub accesses : (a k : ℕ) → a < RECORDS * l.workers → k < 8 → IsAccessAt l.objects (word_at l ws (record_word a (13 + k)))
@@ -217,6 +220,7 @@ pub record Fits (j : Setup) (lies : Lies) (ws : List ℕ) (seat : ℕ) (v : View
   pub known : (p : Path) → In p v.seen.known → IsKnownFinished lies p
   pub notes : (n : Note) → In n v.seen.notes → IsSo (layout_of j) lies ws n
   pub stop : v.seen.stop ≡ true → word_at (layout_of j) ws stop_at ≡ 1
+  pub line : (m : Spot) → In m v.seen.line → IsPublished lies m
 
 -- the lists of all seats together
 pub record Counts (l : Layout) (lies : Lies) (views : List View) : Type 0 where

@@ -72,7 +72,7 @@ abbrev pub no_tasks : Tasks
 no_tasks = record { claimed = []; promised = []; given = []; running = []; halted = []; ran = []; begun = 0 }
 
 abbrev pub nothing_seen : Seen
-nothing_seen = record { known = []; notes = []; stop = false }
+nothing_seen = record { known = []; notes = []; stop = false; line = [] }
 
 abbrev pub no_draws : Draws
 no_draws = record { hands = []; over = 0 }

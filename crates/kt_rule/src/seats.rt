@@ -3,6 +3,7 @@
 use crate::views::View;
 
 /// A worker's place at the table of its run.
+#[derive(Drop)]
 pub struct Seat {
     /// The table's own seat, whose view contracts speak of.
     pub token: atomic_table::Seat<(), View>,

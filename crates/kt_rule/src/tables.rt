@@ -9,6 +9,7 @@ use kt_words::Layout;
 use std::alloc::Global;
 
 /// The words that the workers of a run share, and where each stands.
+#[derive(Drop)]
 pub struct RunTable {
     pub table: Table<(), View, Vec<u64>, KaapiRule, Global>,
     pub layout: Layout,

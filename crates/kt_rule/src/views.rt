@@ -119,6 +119,8 @@ pub struct Seen {
     pub notes: LinkedList<Note>,
     /// Whether it knows that the stop word is 1.
     pub stop: bool,
+    /// Tasks above one that it has in hand, whose records it has found.
+    pub line: LinkedList<Spot>,
 }
 
 /// The task numbers that the seat has drawn.

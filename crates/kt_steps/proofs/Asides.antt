@@ -97,6 +97,7 @@ module _ (j : Setup) (lies : Lies) (s : State Slots View) (f : Facts j lies s) w
       beside = wd.beside;
       numbered = wd.numbered;
       parents = wd.parents;
+      above = wd.above;
       heads = λ a less. subst IsHeadAt (sym (record_stays a 1 less (omega arith))) (wd.heads a less);
       accesses = λ a k less few. subst (IsAccessAt l.objects) (sym (record_stays a (13 + k) less (omega arith)))
           (wd.accesses a k less few);
@@ -120,6 +121,7 @@ module _ (j : Setup) (lies : Lies) (s : State Slots View) (f : Facts j lies s) w
       known = h.known;
       notes = λ m i. note_keeps l lies s.words lies ws' plain_keeps m (h.notes m i);
       stop = λ e. stop (h.stop e);
+      line = h.line;
     }
 
     -- a live seat steps on a word that is no worker's, and only what it drew and whether it knows the stop word may change
@@ -165,6 +167,7 @@ module _ (j : Setup) (lies : Lies) (s : State Slots View) (f : Facts j lies s) w
             known = fit.known;
             notes = fit.notes;
             stop = knows;
+            line = fit.line;
           };
           others = λ k x ne e. plain_fits stays k x (seat_in k x e) (f.fits k x e);
           unmade = λ a from less z. record_stays a 0 less (omega arith) ∙ z;
@@ -177,13 +180,13 @@ pub loads_stop : (opening : List ℕ) (slots id : ℕ) (me : Me Slots View) (j :
     → i ≡ place (layout_of j) stop_at
     → Allows (Holds opening) slots id me i (λ n. n) (Tells LoadsStop (step slots i 0 0 none) me)
 loads_stop opening slots id me j i setup live i_is s h _ at _ = elim f.stopped.word [
-  | inl z ↦ (v, keeps, tt, holds v (learned j lies s f id v at live v.seen fit.known fit.notes fit.stop), (inl (n_is ∙ z, refl), refl))
+  | inl z ↦ (v, keeps, tt, holds v (learned j lies s f id v at live v.seen fit.known fit.notes fit.stop fit.line), (inl (n_is ∙ z, refl), refl))
   | inr o ↦ (
     knows_stop v,
     keeps,
     tt,
     holds (knows_stop v) (learned j lies s f id v at live
-        (record v.seen { stop = true }) fit.known fit.notes (λ _. o.0)),
+        (record v.seen { stop = true }) fit.known fit.notes (λ _. o.0) fit.line),
     (inr (n_is ∙ o.0, refl), refl),
   )
 ]
@@ -374,6 +377,7 @@ builds_one opening slots id me j g n i setup live room pos big may new i_is s h 
       beside = wd.beside;
       numbered = wd.numbered;
       parents = wd.parents;
+      above = wd.above;
       heads = each IsHeadAt 1 (omega arith) (λ e. may.0 (sym e)) wd.heads;
       accesses = λ a k less lower. each (IsAccessAt l1.objects) (13 + k) (omega arith) (λ e. may.1 k lower (sym e))
           (λ b small. wd.accesses b k small lower) a less;
@@ -403,6 +407,7 @@ builds_one opening slots id me j g n i setup live room pos big may new i_is s h 
       known = fit.known;
       notes = λ m u. note_keeps l1 lies s.words lies ws1 keeps_all m (fit.notes m u);
       stop = λ e. stop_stays ∙ fit.stop e;
+      line = fit.line;
     }
 
     built_own : (b : Stored) → In b (record { field = g; word = n } ∷ v.region.built)

@@ -150,7 +150,7 @@ claims_for opening slots id me j own ns thief frame fork i old new setup notes_a
           (record v.seen { notes = record own { lost = true; other = n } ∷ ns }) fit.known
           (λ o k. ⊎_elim (λ (e : o ≡ record own { lost = true; other = n }). subst (IsSo l lies s.words) (sym e)
           (note_lost l lies s.words own n own_is)) (λ (g : In o ns). fit.notes o (subst (In o) (sym notes_are) (there g)))
-          (in_cons o (record own { lost = true; other = n }) ns k)) fit.stop)),
+          (in_cons o (record own { lost = true; other = n }) ns k)) fit.stop fit.line)),
       (told_lost opening s i old new id me.1 (Won (lost_one v own ns n)) (lost_one v own ns n ≡ lost_one v own ns n) miss refl, refl),
     ))
   where

@@ -423,6 +423,17 @@ module _ (j : Setup) (lies : Lies) (s : State Slots View) (f : Facts j lies s) (
             (sym (same_at u.z z u.same)))
       ])
     ];
+    above = λ o i y z d g lives. elim (at2 (child o i) y d) [
+      | inl h ↦ (let a = child_one p o n i h.0 in elim (at2 o z g) [
+        | inl u ↦ absurd (not_child p n (a.0 ∙ sym u.0))
+        | inr u ↦ (let z_is : u.z ≡ t = some-injective u.z t (sym u.is ∙ (ap lies (sym a.0) ∙ is)) in
+            ap is_gone u.stage ∙ (ap (λ (r : Lie). is_gone r.stage) z_is ∙ t_live))
+      ])
+      | inr h ↦ (elim (at2 o z g) [
+        | inl u ↦ absurd (none_below i h.z (ap (λ (r : Path). lies (child r i)) u.0 ∙ h.is))
+        | inr u ↦ ap is_gone u.stage ∙ f.words.above o i h.z u.z h.is u.is (sym (ap is_gone h.stage) ∙ lives)
+      ])
+    ];
     heads = λ a less. subst IsHeadAt (sym (stays a 1 less (omega arith) (inr (omega arith)))) (f.words.heads a less);
     accesses = λ a k less lower. subst (IsAccessAt l.objects) (sym (stays a (13 + k) less (omega arith) (inr (omega arith))))
         (f.words.accesses a k less lower);
@@ -572,6 +583,7 @@ module _ (j : Setup) (lies : Lies) (s : State Slots View) (f : Facts j lies s) (
     known = λ o i. known_keeps l lies s.words lies2 ws' keeps2 o (fit.known o i);
     notes = λ o i. note_keeps l lies s.words lies2 ws' keeps2 o (fit.notes o i);
     stop = λ i. quiet2 stop_at tt tt ∙ fit.stop i;
+    line = λ o i. berth_keeps l lies s.words lies2 ws' keeps2 o.path o.berth (fit.line o i);
   }
     where
       mine_now : (o : Spot) → In o w.region.mine → IsPublished lies2 o

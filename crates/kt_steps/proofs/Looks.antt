@@ -163,9 +163,10 @@ module _ (j : Setup) (lies : Lies) (s : State Slots View) (f : Facts j lies s) (
             (learnt v a) [] ++ v.seen.known;
         notes = note_of a n ∷ going a v.seen.notes;
         stop = v.seen.stop;
+        line = v.seen.line;
       })
       known_is (λ m i. notes_more (note_of a n) (going a v.seen.notes) note_is
-      (λ o g. fit.notes o (in_going a v.seen.notes o g)) m i) fit.stop
+      (λ o g. fit.notes o (in_going a v.seen.notes o g)) m i) fit.stop fit.line
 
 -- a load of a state word
 pub stands_at : (opening : List ℕ) (slots id : ℕ) (me : Me Slots View) (j : Setup) (a i : ℕ) → me.0.setup ≡ Some j → 0 < me.0.parts
@@ -209,7 +210,7 @@ scans_head opening slots id me j o ns i setup live notes_are i_is s h _ at _ =
       tt,
       load_holds opening j lies s i id me.1 (with_note v m ns)
           (learned j lies s f id v at live (record v.seen { notes = m ∷ ns }) fit.known
-          (λ c g. notes_more m ns new (λ c g. fit.notes c (subst (In c) (sym notes_are) (there g))) c g) fit.stop),
+          (λ c g. notes_more m ns new (λ c g. fit.notes c (subst (In c) (sym notes_are) (there g))) c g) fit.stop fit.line),
       ((b.0, b.1, n_is ∙ b.2, refl), refl),
     )
 
@@ -275,7 +276,7 @@ scans_access opening slots id me j o ns i setup live notes_are headed less few i
       tt,
       load_holds opening j lies s i id me.1 (with_note v m ns)
           (learned j lies s f id v at live (record v.seen { notes = m ∷ ns }) fit.known
-          (λ c g. notes_more m ns new (λ c g. fit.notes c (subst (In c) (sym notes_are) (there g))) c g) fit.stop),
+          (λ c g. notes_more m ns new (λ c g. fit.notes c (subst (In c) (sym notes_are) (there g))) c g) fit.stop fit.line),
       ((b.0, b.1, b.2, n_is ∙ b.3, refl), refl),
     )
 

@@ -170,6 +170,7 @@ splits opening j id v setup parts made room none_over s hold at = holds_so openi
     known = fit.known;
     notes = fit.notes;
     stop = fit.stop;
+    line = fit.line;
   }) (λ k x e ne. f.fits k x e) (record {
     setup = λ live. setup;
     own = λ live. let a = len in let b = seats in omega arith;
@@ -184,6 +185,7 @@ splits opening j id v setup parts made room none_over s hold at = holds_so openi
     known = λ p i. elim i [ ];
     notes = λ m i. elim i [ ];
     stop = λ e. false_is e;
+    line = λ m i. elim i [ ];
   });
   unmade = λ a from below. f.unmade a (let b = len2 in omega arith) below;
 })
@@ -325,6 +327,7 @@ joins opening j id v other w setup live unmaker s hold at apart at' = holds_so o
     known = λ p i. elim (in_append v.seen.known w.seen.known p i) [ inl h ↦ fit.known p h | inr h ↦ fit2.known p h ];
     notes = fit.notes;
     stop = λ e. elim (or_true v.seen.stop w.seen.stop e) [ inl h ↦ fit.stop h | inr h ↦ fit2.stop h ];
+    line = fit.line;
   }) (λ k x e. f.fits k x e) (record {
     setup = λ some_part. absurd (omega arith);
     own = λ some_part. absurd (omega arith);
@@ -338,6 +341,7 @@ joins opening j id v other w setup live unmaker s hold at apart at' = holds_so o
     known = λ p i. elim i [ ];
     notes = λ m i. elim i [ ];
     stop = λ e. false_is e;
+    line = λ m i. elim i [ ];
   });
   unmade = λ a from below. f.unmade a (let b = len in let c = len2 in omega arith) below;
 })
@@ -526,6 +530,7 @@ module _ (j : Setup) (laws : Laws (machine_of j.program) (rights_in j.program)) 
       beside = λ q i k t u e d. absurd (nil_child q i (only (child q i) t e).0);
       numbered = λ q i t e. absurd (nil_child q i (only (child q i) t e).0);
       parents = λ q i t u e d. absurd (nil_child q i (only (child q i) t e).0);
+      above = λ q i t u e d live. absurd (nil_child q i (only (child q i) t e).0);
       heads = op.heads;
       accesses = op.accesses;
     };
@@ -586,6 +591,7 @@ module _ (j : Setup) (laws : Laws (machine_of j.program) (rights_in j.program)) 
       known = λ q i. elim i [ ];
       notes = λ x i. elim i [ ];
       stop = λ e. false_is e;
+      line = λ x i. elim i [ ];
     });
     unmade = λ a from less. op.others a (λ e. omega arith) less;
   }
