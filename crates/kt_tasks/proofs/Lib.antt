@@ -1,1 +1,11 @@
+pub mod Calls
+pub mod Climbing
+pub mod Counted
+pub mod Drawn
+pub mod Fields
+pub mod Filling
 pub mod Found
+pub mod Offering
+pub mod Scanning
+pub mod Telling
+pub mod Trail

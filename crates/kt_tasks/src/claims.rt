@@ -14,17 +14,16 @@ ghost use Rattle.kt_prog.specs.Reference.{machine_of};
 ghost use Rattle.kt_runs.specs.ByPath.{child};
 ghost use Rattle.kt_rule.specs.Facts.{task_in};
 ghost use Rattle.kt_rule.specs.Lists.{In};
-ghost use Rattle.kt_rule.specs.Steps.{BeforeKnown, Tells, ends, starts, starts_own, won_own};
+ghost use Rattle.kt_rule.specs.Steps.{BeforeKnown, Tells, ends, starts, won_own};
 ghost use Rattle.kt_rule.specs.declared.views.Execution.{Execution};
-ghost use Rattle.kt_rule.specs.declared.views.Promise.{Promise};
 ghost use Rattle.kt_rule.specs.declared.views.Spot.{Spot};
-ghost use Rattle.kt_steps.specs.Told.{ClaimsForAt, ClaimsOwnAt, EndsAt, IsEnded, IsLiveOf, IsMine, IsNotedReady, ShowsGiven, ShowsOwn, ShowsPromised, ShowsRunning, StartsGivenAt, StartsOwnAt};
+ghost use Rattle.kt_steps.specs.Told.{EndsAt, IsEnded, IsLiveOf, IsMine, IsNotedReady, ShowsGiven, ShowsOwn, ShowsRunning};
 ghost use Rattle.kt_tasks.specs.declared.states.Claim.TheVariants as C;
-ghost use Rattle.kt_tasks.specs.Claims.{Claimed, ClaimedFor};
+ghost use Rattle.kt_tasks.specs.Claims.{AreFew, Claimed, ClaimedFor, ClaimsForFound, ClaimsOwnFew, StartsFew};
 ghost use Rattle.kt_words.specs.Words.{IsStateWord, packed_state};
 ghost use Rattle.kt_words.specs.declared.layouts.TheConstants.{RECORDS};
 
-use crate::states::{Claim, state_in};
+use crate::states::{Claim, Offer, state_in};
 use atomic_table::Play;
 use kt_law::Stand;
 use kt_rule::{RunTable, Seat, View};
@@ -40,25 +39,13 @@ impl Play<(), View> for LookingOwn {
 struct ClaimingOwn;
 
 impl Play<(), View> for ClaimingOwn {
-    ghost then = { Tells ClaimsOwnAt };
+    ghost then = { Tells ClaimsOwnFew };
 }
 
 struct ClaimingFor;
 
 impl Play<(), View> for ClaimingFor {
-    ghost then = { Tells ClaimsForAt };
-}
-
-struct LookingPromised;
-
-impl Play<(), View> for LookingPromised {
-    ghost then = { Tells ShowsPromised };
-}
-
-struct Starting;
-
-impl Play<(), View> for Starting {
-    ghost then = { Tells StartsOwnAt };
+    ghost then = { Tells ClaimsForFound };
 }
 
 struct LookingGiven;
@@ -67,10 +54,10 @@ impl Play<(), View> for LookingGiven {
     ghost then = { Tells ShowsGiven };
 }
 
-struct StartingGiven;
+struct Starting;
 
-impl Play<(), View> for StartingGiven {
-    ghost then = { Tells StartsGivenAt };
+impl Play<(), View> for Starting {
+    ghost then = { Tells StartsFew };
 }
 
 struct LookingRunning;
@@ -105,34 +92,15 @@ pub fn finish(t: &RunTable, s: &mut Seat, at: u32)
     t.table.shared.store::<Finishing>(&mut s.token, place, new);
 }
 
-/// Starts the first task that the seat has claimed, which it claimed for itself.
-pub fn start(t: &RunTable, s: &mut Seat, at: u32)
-    requires seat { s.old.token.table_id ≡ t.now.table.shared.table_id }
-    requires live { IsLiveOf t.now.layout s.old.worker s.old.token.me.0 }
-    requires inside { (at < RECORDS * t.now.layout.workers) × (s.old.worker < 8) }
-    requires promised { (m : Spot) × (rest : List Promise) × (s.old.token.me.0.tasks.promised ≡ record { spot = m; thief = s.old.token.me.0.worker } ∷ rest) × (m.berth.at ≡ at) }
-    ensures seat { (s.new.token.table_id ≡ s.old.token.table_id) × (s.new.token.me.1 ≡ s.old.token.me.1) × (s.new.worker ≡ s.old.worker) × (s.new.word ≡ s.old.word) }
-    ensures started { (m : Promise) (rest : List Promise) → s.old.token.me.0.tasks.promised ≡ m ∷ rest → s.new.token.me.0 ≡ starts_own s.old.token.me.0 m.spot rest }
-{
-    let place = t.layout.field(at, STATE);
-    let found = t.table.shared.load::<LookingPromised>(&mut s.token, place);
-    let state = state_in(found);
-    let new = pack_state(&StateWord {
-        frame: state.frame,
-        fork: state.fork,
-        stand: Stand::Running(s.worker),
-    });
-    t.table.shared.store::<Starting>(&mut s.token, place, new);
-}
-
 /// Starts the first task that the seat was given, which a leader claimed for it.
-pub fn start_given(t: &RunTable, s: &mut Seat, at: u32)
+pub fn start(t: &RunTable, s: &mut Seat, at: u32)
     requires seat { s.old.token.table_id ≡ t.now.table.shared.table_id }
     requires live { IsLiveOf t.now.layout s.old.worker s.old.token.me.0 }
     requires inside { (at < RECORDS * t.now.layout.workers) × (s.old.worker < 8) }
     requires given { (m : Spot) × (rest : List Spot) × (s.old.token.me.0.tasks.given ≡ m ∷ rest) × (m.berth.at ≡ at) }
     ensures seat { (s.new.token.table_id ≡ s.old.token.table_id) × (s.new.token.me.1 ≡ s.old.token.me.1) × (s.new.worker ≡ s.old.worker) × (s.new.word ≡ s.old.word) }
     ensures started { (m : Spot) (rest : List Spot) → s.old.token.me.0.tasks.given ≡ m ∷ rest → s.new.token.me.0 ≡ starts s.old.token.me.0 m rest }
+    ensures few { AreFew s.new.token.me.0 }
 {
     let place = t.layout.field(at, STATE);
     let found = t.table.shared.load::<LookingGiven>(&mut s.token, place);
@@ -142,14 +110,12 @@ pub fn start_given(t: &RunTable, s: &mut Seat, at: u32)
         fork: state.fork,
         stand: Stand::Running(s.worker),
     });
-    t.table
-        .shared
-        .store::<StartingGiven>(&mut s.token, place, new);
+    t.table.shared.store::<Starting>(&mut s.token, place, new);
 }
 
-/// Claims for a thief the entry that the seat noted last, where its notes say that it is ready, and answers whether it did. It does
-/// just where the record's word is still the one that was noted; so it does not matter when the notes were made.
-pub fn claim_for(t: &RunTable, s: &mut Seat, at: u32, state: StateWord, thief: u32) -> bool
+/// Claims for a thief the entry that the seat noted last, where its notes say that it is ready. It is won just where the record's
+/// word is still the one that was noted; so it does not matter when the notes were made.
+pub fn claim_for(t: &RunTable, s: &mut Seat, at: u32, state: StateWord, thief: u32) -> Offer
     requires seat { s.old.token.table_id ≡ t.now.table.shared.table_id }
     requires live { IsLiveOf t.now.layout s.old.worker s.old.token.me.0 }
     requires inside { (at < RECORDS * t.now.layout.workers) × (thief < t.now.layout.workers) × (thief < 8) }
@@ -168,7 +134,10 @@ pub fn claim_for(t: &RunTable, s: &mut Seat, at: u32, state: StateWord, thief: u
         .table
         .shared
         .compare_exchange::<ClaimingFor>(&mut s.token, place, old, new);
-    word == old
+    if word == old {
+        return Offer::Won;
+    }
+    Offer::Lost(word)
 }
 
 /// Claims a record of the seat's own region, all earlier entries of whose frame it knows finished.
@@ -179,6 +148,7 @@ pub fn claim_own(t: &RunTable, s: &mut Seat, at: u32) -> Claim
     requires mine { (m : Spot) × IsMine s.old.token.me.0 at m × BeforeKnown s.old.token.me.0 m.path }
     ensures seat { (s.new.token.table_id ≡ s.old.token.table_id) × (s.new.token.me.1 ≡ s.old.token.me.1) × (s.new.worker ≡ s.old.worker) × (s.new.word ≡ s.old.word) }
     ensures claimed { Claimed s.old.token.me.0 at s.new.token.me.0 result }
+    ensures few { AreFew s.new.token.me.0 }
 {
     let place = t.layout.field(at, STATE);
     let found = t.table.shared.load::<LookingOwn>(&mut s.token, place);

@@ -21,6 +21,15 @@ pub enum Claim {
     Stolen(Stand),
 }
 
+/// What a claim for a thief answers.
+#[derive(Clone, Copy, Debug, PartialEq, Eq)]
+pub enum Offer {
+    /// The task is promised to the thief.
+    Won,
+    /// The record's state word was this one by then.
+    Lost(u64),
+}
+
 struct Standing;
 
 impl Play<(), View> for Standing {

@@ -5,7 +5,8 @@ use mathlib.Core.Option.{some}
 use lib.ListN.{get_elem?}
 use Rattle.kt_words.specs.Places.{place, record_word}
 use Rattle.kt_rule.specs.Steps.{state_word, IsState, BeforeKnown}
-use Rattle.kt_steps.proofs.Telling.{shows_own, claims_own_at}
+use Rattle.kt_steps.proofs.Telling.{shows_own}
+use Rattle.kt_tasks.proofs.Telling.{claims_own_few}
 use Rattle.kt_tasks.proofs.Found.{state_found, stand_found, repacked, lost_told}
 use Rattle.kt_tasks.proofs.claims.claim_own.Goals as goal
 
@@ -39,7 +40,7 @@ compare_exchange-word-requires c = let l = c.requires.live in let q = c.requires
     (told.0 q.0 (l.setup, l.told, (q.1.0, q.1.1), at_place)) in (
       c.load-found.ensures.0 ∙ c.requires.seat,
       omega arith,
-      claims_own_at c.args.t.now.table.shared.key.items c.args.t.now.table.shared.table_id.slots c.load-found.new.seat.id
+      claims_own_few c.args.t.now.table.shared.key.items c.args.t.now.table.shared.table_id.slots c.load-found.new.seat.id
           c.load-found.new.seat.me l.setup (ap (λ z. z.setup) same ∙ l.told)
           (subst (λ z. 0 < z.parts) (sym same) l.live) q.0 q.1.0 _ _ _
           (subst (λ z. get_elem? z.region.spots q.1.0 ≡ some q.0) (sym same) q.1.1)
@@ -55,7 +56,7 @@ lost : (c : goal.Else-word-old) → ((b : Stand) × IsState c.requires.mine.0.be
     × (c.compare_exchange-word.result ≡ state_word c.requires.mine.0.berth b))
     × (c.compare_exchange-word.new.seat.me.0 ≡ c.load-found.new.seat.me.0)
 lost c = let l = c.requires.live in let q = c.requires.mine in let same = c.load-found.ensures.2.0.1 in
-    lost_told _ _ c.compare_exchange-word.result c.pack_state-old.result (c.compare_exchange-word.ensures.2.0 q.0 (
+    lost_told _ _ c.compare_exchange-word.result c.pack_state-old.result (c.compare_exchange-word.ensures.2.0.0 q.0 (
       l.setup,
       ap (λ z. z.setup) same ∙ l.told,
       (q.1.0, subst (λ z. get_elem? z.region.spots q.1.0 ≡ some q.0) (sym same) q.1.1),
@@ -71,7 +72,7 @@ lost_then : (c : goal.After-state_in) → ((b : Stand) × IsState c.requires.min
     × (c.compare_exchange-word.result ≡ state_word c.requires.mine.0.berth b))
     × (c.compare_exchange-word.new.seat.me.0 ≡ c.load-found.new.seat.me.0)
 lost_then c = let l = c.requires.live in let q = c.requires.mine in let same = c.load-found.ensures.2.0.1 in
-    lost_told _ _ c.compare_exchange-word.result c.pack_state-old.result (c.compare_exchange-word.ensures.2.0 q.0 (
+    lost_told _ _ c.compare_exchange-word.result c.pack_state-old.result (c.compare_exchange-word.ensures.2.0.0 q.0 (
       l.setup,
       ap (λ z. z.setup) same ∙ l.told,
       (q.1.0, subst (λ z. get_elem? z.region.spots q.1.0 ≡ some q.0) (sym same) q.1.1),
