@@ -1,0 +1,131 @@
+-- A step of a live seat on a word of a worker, or on no word at all, by which what it knows of requests changes and
+-- nothing else does.
+use Rattle.std.proofs.Common.{◌≡◌, ℕ, ◌<◌, List, set, length-set, refl, ◌∙◌, inl, inr, arith}
+use mathlib.Core.Option.{some}
+use lib.ListN.{get_elem?}
+use Rattle.atomic_table.specs.Table.{State}
+use Rattle.kt_words.specs.Places.{Place, place, worker_word, Own}
+use Rattle.kt_words.specs.declared.layouts.Layout.{Layout}
+use Rattle.kt_rule.specs.declared.views.Setup.{Setup}
+use Rattle.kt_rule.specs.declared.views.Promise.{Promise}
+use Rattle.kt_rule.specs.declared.views.Desk.{Desk}
+use Rattle.kt_rule.specs.declared.views.View.{View}
+use Rattle.kt_rule.specs.Lists.{In}
+use Rattle.kt_rule.specs.Lies.{Lies}
+use Rattle.kt_rule.specs.Records.{layout_of, word_at, elements, drawn_at, stop_at}
+use Rattle.kt_rule.specs.Views.{promised_in}
+use Rattle.kt_rule.specs.Facts.{is_promised, Fits}
+use Rattle.kt_rule.specs.Requests.{IsPromised, Desked, Asked}
+use Rattle.kt_rule.specs.Rule.{Slots, Facts}
+use Rattle.kt_rule.proofs.Shelf as shelf
+use Rattle.kt_rule.proofs.Shelf.{elements_else}
+use Rattle.kt_rule.proofs.Sums.{tally_step}
+use Rattle.kt_rule.proofs.Words.{nothing_changes}
+use Rattle.kt_rule.proofs.Moves.{each_view, drawn_keeps, assemble}
+use Rattle.kt_steps.proofs.Asides.{seat_in, main_lives, record_stays, plain_keeps, plain_core, plain_words, plain_fits}
+
+-- what a seat knows but for requests
+pub fits_desk : (j : Setup) (lies : Lies) (ws : List ℕ) (seat : ℕ) (v : View) (d : Desk) → Fits j lies ws seat v
+    → Fits j lies ws seat (record v { desk = d })
+fits_desk j lies ws seat v d fit = record {
+  setup = fit.setup;
+  own = fit.own;
+  owns = fit.owns;
+  running = fit.running;
+  halted = fit.halted;
+  ran = fit.ran;
+  begun = fit.begun;
+  mine = fit.mine;
+  given = fit.given;
+  known = fit.known;
+  notes = fit.notes;
+  stop = fit.stop;
+  line = fit.line;
+}
+
+module _ (j : Setup) (lies : Lies) (s : State Slots View) (f : Facts j lies s) where
+  abbrev l : Layout
+  l = layout_of j
+
+  -- a word of worker k becomes n
+  module _ (k : ℕ) (o : Own) (less : k < j.workers) (n : ℕ) where
+    abbrev q : Place
+    q = worker_word k o
+
+    abbrev ws' : List ℕ
+    ws' = set s.words (place l q) n
+
+    pub drawn_stays : word_at l ws' drawn_at ≡ word_at l s.words drawn_at
+    drawn_stays = shelf.else l s.words q drawn_at n less tt (λ e. cc)
+
+    pub stop_stays : word_at l ws' stop_at ≡ word_at l s.words stop_at
+    stop_stays = shelf.else l s.words q stop_at n less tt (λ e. cc)
+
+    pub elements_stay : elements l ws' ≡ elements l s.words
+    elements_stay = elements_else l s.words q n less tt
+
+    pub desk_step : (id : ℕ) (v : View) → get_elem? s.views id ≡ some v → 0 < v.parts → (d : Desk)
+        → Asked l lies ws' (set s.views id (record v { desk = d }))
+        → Facts j lies record { words = ws'; homes = s.homes; views = set s.views id (record v { desk = d }) }
+    desk_step id v at live d asked =
+        let w : View = record v { desk = d } in
+        let fits : (i : ℕ) (x : View) → get_elem? s.views i ≡ some x → Fits j lies ws' i x =
+        (λ i x e. plain_fits j lies s f q less tt n (λ h. stop_stays ∙ h) i x (seat_in j lies s f i x e) (f.fits i x e)) in
+        assemble j lies lies s ws' id v w f at live (record {
+          parts = refl;
+          made = refl;
+          keeps = plain_keeps j lies s f q less tt n;
+          root = main_lives j lies s f;
+          core = plain_core j lies s f q less tt n;
+          words = plain_words j lies s f q less tt n;
+          mine = λ p. refl;
+          claimed = λ p. refl;
+          given = λ p. refl;
+          begun = λ p. refl;
+          asked = asked;
+          drawn = drawn_keeps j lies lies s.words ws' s.views id v w f.drawn at refl refl refl (λ p h. h) drawn_stays (λ p. omega arith);
+          stopped = record {
+            word = elim f.stopped.word [
+              | inl z ↦ inl (stop_stays ∙ z)
+              | inr h ↦ inr
+                  (stop_stays ∙ h.0, (let a = drawn_stays in let b = h.1 in omega arith))
+            ];
+          };
+          fits = fits_desk j lies ws' id v d (fits id v at);
+          others = λ i x ne e. fits i x e;
+          unmade = λ a from low z. record_stays j lies s f q less tt n a 0 low (omega arith) ∙ z;
+        })
+
+  -- the seat learns something of requests, and no word changes
+  pub desk_learned : (id : ℕ) (v : View) → get_elem? s.views id ≡ some v → 0 < v.parts → (d : Desk) → Desked l s.words id d
+      → Facts j lies record { words = s.words; homes = s.homes; views = set s.views id (record v { desk = d }) }
+  desk_learned id v at live d mine = let w : View = record v { desk = d } in let a = f.asked in
+      assemble j lies lies s s.words id v w f at live (record {
+        parts = refl;
+        made = refl;
+        keeps = nothing_changes l lies s.words;
+        root = main_lives j lies s f;
+        core = f.core;
+        words = f.words;
+        mine = λ p. refl;
+        claimed = λ p. refl;
+        given = λ p. refl;
+        begun = λ p. refl;
+        asked = record {
+          posts = a.posts;
+          leads = a.leads;
+          tasks = a.tasks;
+          posted = a.posted;
+          promised = tally_step promised_in is_promised lies s.views id v a.promised at w lies (λ p. refl);
+          promises = each_view (λ i x. (m : Promise) → In m x.tasks.promised → IsPromised lies m) s.views id w (a.promises id v at)
+              (λ i x ne e. a.promises i x e);
+          desks = each_view (λ i x. 0 < x.parts → Desked l s.words i x.desk) s.views id w (λ some_part. mine)
+              (λ i x ne e. a.desks i x e);
+          unasked = λ i from low. let n = length-set s.views id w in a.unasked i (omega arith) low;
+        };
+        drawn = drawn_keeps j lies lies s.words s.words s.views id v w f.drawn at refl refl refl (λ p h. h) refl (λ p. omega arith);
+        stopped = f.stopped;
+        fits = fits_desk j lies s.words id v d (f.fits id v at);
+        others = λ i x ne e. f.fits i x e;
+        unmade = λ a from low z. z;
+      })

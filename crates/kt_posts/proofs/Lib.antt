@@ -1,0 +1,10 @@
+pub mod PostWords
+pub mod Desking
+pub mod Asking
+pub mod Handing
+pub mod ThiefSteps
+pub mod Without
+pub mod LeaderSteps
+pub mod Entering
+pub mod Telling
+pub mod Settling

@@ -1,0 +1,13 @@
+use Rattle.std.proofs.Common.{arith, ◌∙◌, sym}
+use Rattle.kt_words.specs.Places.{place, worker_word, post}
+use Rattle.kt_posts.proofs.Telling.{fails_told}
+use Rattle.kt_posts.proofs.leaders.answer_failed.Goals as goal
+
+pub store-requires : goal.store-requires
+store-requires c = let l = c.requires.live in let wide = c.args.t.now.wide in let inside = c.post.ensures.inside in (
+  c.requires.seat,
+  omega arith,
+  fails_told c.args.t.now.table.shared.key.items c.args.t.now.table.shared.table_id.slots c.args.s.now.token.id c.args.s.now.token.me
+      l.setup l.told l.live c.args.thief _ _ c.requires.held
+      (c.post.ensures.value ∙ (λ i. place (sym l.layout i) (worker_word c.args.thief post))) c.pack_post-new.ensures,
+)

@@ -1,0 +1,12 @@
+use Rattle.std.proofs.Common.{arith, ◌∙◌, sym}
+use Rattle.kt_words.specs.Places.{place, worker_word, answer}
+use Rattle.kt_posts.proofs.Telling.{gets_told}
+use Rattle.kt_posts.proofs.thieves.piece.Goals as goal
+
+pub load-word-requires : goal.load-word-requires
+load-word-requires c = let l = c.requires.live in let wide = c.args.t.now.wide in let inside = c.answer.ensures.inside in (
+  c.requires.seat,
+  omega arith,
+  gets_told c.args.t.now.table.shared.key.items c.args.t.now.table.shared.table_id.slots c.args.s.now.token.id c.args.s.now.token.me
+      l.setup l.told l.live _ c.requires.saw (c.answer.ensures.value ∙ (λ i. place (sym l.layout i) (worker_word (l.own i) answer))),
+)

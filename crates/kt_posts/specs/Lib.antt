@@ -1,0 +1,4 @@
+pub mod Desks
+pub mod Told
+pub mod Answered
+pub mod Laws
