@@ -1,0 +1,6 @@
+pub mod Words
+pub mod Seeing
+pub mod Claiming
+pub mod Turning
+pub mod Dealing
+pub mod Reporting

@@ -1,0 +1,10 @@
+use Rattle.std.proofs.Common.{◌≡◌, ◌++◌, length, drop}
+use Rattle.kt_request.specs.Reports.{deal}
+use Rattle.kt_request.specs.Serving.{Answering}
+use Rattle.kt_request.proofs.answering.answer_all.Given as goal
+
+abbrev pub invariant-loop-i : goal.invariant-loop-i
+invariant-loop-i l = Answering l.held l.given l.fn.s.token.me.0 l.i l.s.token.me.0
+    × (l.answers.items ++ deal (drop l.i l.held) (drop l.i l.given) ≡ deal l.held l.given)
+    × (l.s.token.table_id ≡ l.fn.s.token.table_id) × (l.s.token.me.1 ≡ l.fn.s.token.me.1) × (l.s.worker ≡ l.fn.s.worker)
+    × (length l.answers.items ≡ l.i)

@@ -1,0 +1,3 @@
+pub mod Notes
+pub mod Reports
+pub mod Serving

@@ -1,0 +1,66 @@
+-- The report of a call of `serve`: what it found, claimed and answered, by what the seat's view holds of this call.
+use Rattle.std.specs.Prelude.{◌≡◌, ℕ, suc, ◌+◌, ◌⊎◌, ◌*◌, ◌==◌, false, cond, List, [], ◌∷◌, ◌++◌, length, take}
+use Rattle.kt_words.specs.Words.{packed_post}
+use Rattle.kt_words.specs.declared.posts.Post.TheVariants as P
+use Rattle.kt_words.specs.declared.layouts.TheConstants.{RECORDS}
+use Rattle.kt_runs.specs.ByPath.{Path}
+use Rattle.kt_ready.specs.Contents.{Contents}
+use Rattle.kt_rule.specs.declared.views.View.{View}
+use Rattle.kt_rule.specs.declared.views.Note.{Note}
+use Rattle.kt_rule.specs.declared.views.Found.{Found}
+use Rattle.kt_rule.specs.Steps.{note_of}
+use Rattle.kt_posts.specs.declared.answers.Answer.{Answer}
+use Rattle.kt_posts.specs.declared.answers.Answer.TheVariants as A
+use Rattle.kt_posts.specs.Told.{IsPostWord}
+use Rattle.kt_request.specs.declared.served.Served.{Served}
+use Rattle.kt_request.specs.Notes.{InRow, Noted, ready_records}
+
+-- the posts of the workers from this one on were looked at in order, each once
+abbrev pub InOrder : ℕ → List Found → Type 0
+InOrder k [] = Unit {0}
+InOrder k (f ∷ fs) = (f.worker ≡ k) × IsPostWord f.word × InOrder (suc k) fs
+
+-- the workers that were found posted at the victim
+abbrev pub posted_at : ℕ → List Found → List ℕ
+posted_at victim [] = []
+posted_at victim (f ∷ fs) = cond (f.word == packed_post (P.Posted victim)) (f.worker ∷ posted_at victim fs) (posted_at victim fs)
+
+-- the i-th held thief is given the i-th of these records, and the rest get nothing
+abbrev pub deal : List ℕ → List ℕ → List Answer
+deal [] given = []
+deal (k ∷ held) [] = A.Failed ∷ deal held []
+deal (k ∷ held) (a ∷ given) = A.Task a ∷ deal held given
+
+-- What one call of `serve` found and answered. What is of this call is what the view holds behind what it held before:
+-- the words found at the holds, and the notes of the scan that the call began.
+pub record Reports (workers victim : ℕ) (v w : View) (scan : Contents) (s : Served) : Type 0 where
+  -- the workers were looked at in order, one word was found of each, and those are held that were found posted at the victim
+  pub found : List Found
+  pub in_order : InOrder 0 found
+  pub all : length found ≡ workers
+  pub view_found : w.desk.found ≡ v.desk.found ++ found
+  pub held : s.held.items ≡ posted_at victim found
+  -- the notes go through the victim's records from the first one on without a gap, and each has its verdict
+  pub notes : List Note
+  pub row : InRow (RECORDS * victim) notes
+  pub noted : Noted notes scan.notes
+  -- the region ends with the last of them, or the record behind it was found without a task
+  pub ends : ((length notes ≡ RECORDS) × (w.seen.notes ≡ notes)) ⊎ (w.seen.notes ≡ note_of (RECORDS * victim + length notes) 0 ∷ notes)
+  -- the i-th held thief gets the i-th ready entry that was not lost, and those for whom there is none get nothing
+  pub answers : s.answers.items ≡ deal s.held.items (take (length s.held.items) (ready_records scan.notes))
+  -- the lead is given up, which stored 0 in the victim's request word
+  pub released : w.desk.leads ≡ false
+
+-- what was known finished and claimed is so still
+pub record Extends (v w : View) : Type 0 where
+  pub known : (more : List Path) × (w.seen.known ≡ more ++ v.seen.known)
+  pub claimed : (more : List Path) × (w.tasks.claimed ≡ v.tasks.claimed ++ more)
+
+-- and nothing else of the view changed: not the seat's own post, nor what it runs and was given
+pub record ServedOnly (v w : View) : Type 0 where
+  pub same : w ≡ record v {
+    seen = record v.seen { notes = w.seen.notes; known = w.seen.known };
+    tasks = record v.tasks { claimed = w.tasks.claimed; promised = [] };
+    desk = record v.desk { leads = false; held = []; found = w.desk.found; wrote = [] };
+  }
+  pub extends : Extends v w
