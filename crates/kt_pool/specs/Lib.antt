@@ -1,0 +1,4 @@
+pub mod Openings
+pub mod Seats
+pub mod Closing
+pub mod Laws
