@@ -1,0 +1,5 @@
+pub mod Stands
+pub mod Begun
+pub mod Runnable
+pub mod Requests
+pub mod Turning

@@ -1,0 +1,153 @@
+-- The frames that a worker has under way, and how its seat stands between two turns.
+use Rattle.std.specs.Prelude.{◌≡◌, ◌≤◌, ◌<◌, ◌⊎◌, ℕ, suc, ◌+◌, ◌*◌, List, [], ◌∷◌, length, Bool, true, false, Option, Some}
+use mathlib.Core.Option.{some}
+use lib.ListN.{get_elem?}
+use Rattle.kt_law.specs.declared.limits.TheConstants.{WORKERS}
+use Rattle.kt_prog.specs.Runs.{FaultRun}
+use Rattle.kt_prog.specs.declared.programs.Program.{Program}
+use Rattle.kt_runs.specs.ByPath.{Path, child}
+use Rattle.kt_words.specs.declared.layouts.TheConstants.{RECORDS}
+use Rattle.kt_rule.specs.declared.views.Draws.{Draws}
+use Rattle.kt_rule.specs.declared.views.Execution.{Execution}
+use Rattle.kt_rule.specs.declared.views.Promise.{Promise}
+use Rattle.kt_rule.specs.declared.views.Setup.{Setup}
+use Rattle.kt_rule.specs.declared.views.Spot.{Spot}
+use Rattle.kt_rule.specs.declared.views.Stored.{Stored}
+use Rattle.kt_rule.specs.declared.views.View.{View}
+use Rattle.kt_rule.specs.Lists.{In}
+use Rattle.kt_rule.specs.Views.{blank_view, no_draws}
+use Rattle.kt_tasks.specs.Claims.{AreFew}
+use Rattle.kt_calls.specs.Ranges.{IsRecord}
+use Rattle.kt_worker.specs.Faults.{least_of}
+use Rattle.kt_worker.specs.Hands.{HasChildren, IsAtEnd, base_of, fault_with}
+use Rattle.kt_worker.specs.declared.stacks.Level.{Level}
+use Rattle.kt_worker.specs.declared.tallies.Tally.{Tally}
+
+-- what never changes of a seat's view
+abbrev pub kin : View → View
+kin v = record blank_view { setup = v.setup; worker = v.worker; parts = v.parts; made = v.made }
+
+-- a later view of the same seat: its records and what it knew are there still
+pub record Extends (v w : View) : Type 0 where
+  pub seat : kin w ≡ kin v
+  pub spots : (a : ℕ) (m : Spot) → get_elem? v.region.spots a ≡ some m → get_elem? w.region.spots a ≡ some m
+  pub known : (p : Path) → In p v.seen.known → In p w.seen.known
+
+-- the body of the task has ended, its children lie there, and the first ones are known finished
+pub record LevelIs (v : View) (p : Program) (l : Level) (e : Execution) : Type 0 where
+  pub at : e.spot.berth.at ≡ l.at
+  pub inside : IsRecord v l.at
+  pub ends : IsAtEnd p e (fault_with l.ended)
+  pub forks : e.forks ≡ l.count
+  pub children : HasChildren v.region.spots (base_of v) l.first e.spot.path l.count
+  pub next : l.next ≤ l.count
+  pub known : (k : ℕ) → k < l.next → In (child e.spot.path k) v.seen.known
+
+-- where it is an own one, the task is the next entry of the frame below
+abbrev pub IsFrom : Bool → Execution → List Level → List Execution → Type 0
+IsFrom false e levels es = Unit {0}
+IsFrom true e (l ∷ levels) (f ∷ es) = (e.spot.path ≡ child f.spot.path l.next) × (l.next < l.count)
+IsFrom true e _ _ = ⊥
+
+-- the frames, the topmost first, are those of the tasks that run
+abbrev pub Stacked : View → Program → List Level → List Execution → Type 0
+Stacked v p [] [] = Unit {0}
+Stacked v p (l ∷ levels) (e ∷ es) = LevelIs v p l e × IsFrom l.own e levels es × Stacked v p levels es
+Stacked v p _ _ = ⊥
+
+-- the parts of a view that are as between two turns while a task is begun, run and finished
+pub record Bench : Type 0 where
+  pub setup : Option Setup
+  pub worker : ℕ
+  pub spots : List Spot
+  pub built : List Stored
+  pub draws : Draws
+  pub given : List Spot
+  pub promised : List Promise
+  pub free : Bool
+  pub leads : Bool
+
+abbrev pub bench : View → Bench
+bench v = record {
+  setup = v.setup;
+  worker = v.worker;
+  spots = v.region.spots;
+  built = v.region.built;
+  draws = v.draws;
+  given = v.tasks.given;
+  promised = v.tasks.promised;
+  free = v.desk.free;
+  leads = v.desk.leads;
+}
+
+-- nothing is in hand but tasks that run, and the worker knows how much of its region is used
+pub record IsQuiet (b : Bench) (p : Program) (low count : ℕ) : Type 0 where
+  pub setup : Setup
+  pub told : b.setup ≡ Some setup
+  pub program : setup.program ≡ p
+  pub own : b.worker < setup.workers
+  pub workers : setup.workers ≤ WORKERS
+  pub base : low ≡ RECORDS * b.worker
+  pub used : count ≡ length b.spots
+  pub room : length b.spots ≤ RECORDS
+  pub built : b.built ≡ []
+  pub draws : b.draws ≡ no_draws
+  pub given : b.given ≡ []
+  pub promised : b.promised ≡ []
+  pub free : b.free ≡ true
+  pub leads : b.leads ≡ false
+
+-- between two turns
+pub record Calm (v : View) (p : Program) (t : Tally) (levels : List Level) : Type 0 where
+  pub quiet : IsQuiet (bench v) p t.base t.used
+  pub fault : t.fault ≡ least_of p v.tasks.ran
+  pub begun : t.begun ≡ v.tasks.begun
+  pub counted : v.tasks.begun ≡ length v.tasks.running + length v.tasks.ran
+  pub few : AreFew v
+  pub stacked : Stacked v p levels v.tasks.running
+
+-- a task was begun last, of which nothing is done yet
+pub record HasBegun (v : View) (p : Program) (t : Tally) (levels : List Level) (at : ℕ) (own : Bool) : Type 0 where
+  pub quiet : IsQuiet (bench v) p t.base t.used
+  pub fault : t.fault ≡ least_of p v.tasks.ran
+  pub e : Execution
+  pub rest : List Execution
+  pub is : v.tasks.running ≡ e ∷ rest
+  pub answers : e.answers ≡ []
+  pub done : e.done ≡ 0
+  pub forks : e.forks ≡ 0
+  pub frame : e.frame ≡ v.tasks.begun
+  pub at_is : e.spot.berth.at ≡ at
+  pub inside : IsRecord v at
+  pub from : IsFrom own e levels rest
+  pub begun : v.tasks.begun ≡ suc t.begun
+  pub counted : v.tasks.begun ≡ length v.tasks.running + length v.tasks.ran
+  pub few : AreFew v
+  pub stacked : Stacked v p levels rest
+
+-- a worker that has come to its end: it has nothing in hand and its post is idle; it knows that main is finished, and
+-- runs nothing, or it knows that the run stops. The fault is the least one of what it ran
+pub record Ends (v : View) (p : Program) (least : Option FaultRun) : Type 0 where
+  pub free : v.desk.free ≡ true
+  pub leads : v.desk.leads ≡ false
+  pub given : v.tasks.given ≡ []
+  pub promised : v.tasks.promised ≡ []
+  pub fault : least ≡ least_of p v.tasks.ran
+  pub cause : (In [] v.seen.known × (v.tasks.running ≡ [])) ⊎ (v.seen.stop ≡ true)
+
+-- a turn leads from one state between turns to another (true), or the worker has come to its end
+abbrev pub Turns : View → View → Program → Tally → List Level → Bool → Type 0
+Turns v w p t levels true = Calm w p t levels × Extends v w
+Turns v w p t levels false = Ends w p t.fault × Extends v w
+
+-- the topmost frame has one entry more that is known finished
+abbrev pub raised : Bool → List Level → List Level
+raised false levels = levels
+raised true [] = []
+raised true (l ∷ levels) = record l { next = l.next + 1; stolen = false } ∷ levels
+
+-- and so it may
+abbrev pub Rises : Bool → List Level → Type 0
+Rises false levels = Unit {0}
+Rises true [] = Unit {0}
+Rises true (l ∷ levels) = l.next < l.count

@@ -1,0 +1,92 @@
+// A task from its beginning to the end of its body.
+ghost use Rattle.std.specs.Prelude.{◌≡◌, ◌+◌};
+ghost use Rattle.kt_worker.specs.Hands.{is_halted};
+ghost use Rattle.kt_worker.specs.Levels.{HasBegun, Turns};
+ghost use Rattle.kt_worker.specs.Programs.{HasFirsts, HasRoom, IsRunnable};
+
+use crate::body::{Gone, Start, go};
+use crate::gates::Gate;
+use crate::scratch::Tools;
+use crate::stacks::Level;
+use crate::tallies::Tally;
+use crate::workers::Worker;
+use kt_body::Ended;
+use kt_calls::Run;
+use std::marker::Brand;
+
+fn is_halted(ended: Ended) -> bool
+    ensures { result ≡ is_halted ended }
+{
+    matches!(ended, Ended::Halted)
+}
+
+/// Runs the body of the task that was begun last. False where the run stops.
+pub fn run_begun<'a, R: Run, G: Gate>(
+    mut worker: Worker<'a, R>,
+    tools: &mut Tools,
+    gate: &G,
+    at: u32,
+    own: bool,
+) -> (Worker<'a, R>, bool)
+    requires begun { HasBegun (R.view worker.run) worker.program.now worker.tally tools.old.stack.levels at own }
+    requires runnable { IsRunnable worker.program.now }
+    requires firsts { HasFirsts worker.program.now.families worker.firsts.now }
+    requires room { HasRoom worker.program.now tools.old }
+    ensures turns { Turns (R.view worker.entry.run) (R.view result.0.run) worker.entry.program.now result.0.tally tools.new.stack.levels result.1 }
+    ensures room { HasRoom worker.entry.program.now tools.new }
+    ensures program { (result.0.program.now ≡ worker.entry.program.now) × (result.0.firsts.now ≡ worker.entry.firsts.now) }
+{
+    let number = worker.run.number_of(at);
+    gate.started(worker.run.worker(), number);
+    let call = worker.run.call_of(at);
+    let Worker {
+        run,
+        program,
+        firsts,
+        pause,
+        tally,
+    } = worker;
+    let first = tally.used;
+    let begun = tally.begun + 1;
+    let start = Start {
+        program,
+        firsts,
+        call: &call,
+        parent: at,
+        first,
+        frame: begun,
+    };
+    let Gone { run, ended, forks } = go::<R, Brand>(run, start, &mut tools.tiles);
+    if is_halted(ended) {
+        let worker = Worker {
+            run,
+            program,
+            firsts,
+            pause,
+            tally,
+        };
+        return (worker, false);
+    }
+    let used = first + forks;
+    let worker = Worker {
+        run,
+        program,
+        firsts,
+        pause,
+        tally: Tally {
+            used,
+            begun,
+            ..tally
+        },
+    };
+    tools.stack.push(Level {
+        at,
+        first,
+        count: forks,
+        next: 0,
+        own,
+        stolen: false,
+        ended,
+    });
+    (worker, true)
+}

@@ -1,0 +1,232 @@
+// The turns of a worker.
+ghost use Rattle.std.specs.Prelude.{◌≡◌, ◌≤◌, ◌<◌, ◌+◌, ◌∷◌, [], Some, length};
+ghost use Rattle.kt_rule.specs.declared.views.Setup.{Setup};
+ghost use Rattle.kt_worker.specs.Asking.{WasGiven};
+ghost use Rattle.kt_worker.specs.Levels.{Calm, Turns};
+ghost use Rattle.kt_worker.specs.Programs.{HasFirsts, HasRoom, IsRunnable};
+ghost use Rattle.kt_worker.specs.Turns.{IsAboutToStart};
+
+use crate::asking::ask;
+use crate::beginning::run_begun;
+use crate::finishing::finish;
+use crate::gates::Gate;
+use crate::scratch::Tools;
+use crate::stacks::Level;
+use crate::workers::Worker;
+use kt_calls::{Claim, Run};
+use kt_law::Stand;
+use std::sync::Wait;
+
+// The worker behind the last one that was asked.
+fn next_victim(last: u32, workers: u32) -> u32
+    requires { 0 < workers }
+    ensures { result < workers }
+{
+    if last < workers - 1 { last + 1 } else { 0 }
+}
+
+/// Starts a task that was given, and runs its body; where the run stops by now, the body halts before its first operation.
+fn run_given<'a, R: Run, G: Gate>(
+    mut worker: Worker<'a, R>,
+    tools: &mut Tools,
+    gate: &G,
+    at: u32,
+) -> (Worker<'a, R>, bool)
+    requires given { IsAboutToStart (R.view worker.run) worker.program.now worker.tally tools.old.stack.levels at }
+    requires runnable { IsRunnable worker.program.now }
+    requires firsts { HasFirsts worker.program.now.families worker.firsts.now }
+    requires room { HasRoom worker.program.now tools.old }
+    ensures turns { Turns (R.view worker.entry.run) (R.view result.0.run) worker.entry.program.now result.0.tally tools.new.stack.levels result.1 }
+    ensures room { HasRoom worker.entry.program.now tools.new }
+    ensures program { (result.0.program.now ≡ worker.entry.program.now) × (result.0.firsts.now ≡ worker.entry.firsts.now) }
+{
+    worker.run.start(at);
+    if worker.run.stopped() {
+        return (worker, false);
+    }
+    run_begun(worker, tools, gate, at, false)
+}
+
+/// Asks for work once, and runs what it is given.
+fn steal<'a, R: Run, G: Gate, W: Wait>(
+    rt: &W,
+    worker: Worker<'a, R>,
+    tools: &mut Tools,
+    gate: &G,
+) -> (Worker<'a, R>, bool)
+    requires calm { Calm (R.view worker.run) worker.program.now worker.tally tools.old.stack.levels }
+    requires runnable { IsRunnable worker.program.now }
+    requires firsts { HasFirsts worker.program.now.families worker.firsts.now }
+    requires room { HasRoom worker.program.now tools.old }
+    ensures turns { Turns (R.view worker.entry.run) (R.view result.0.run) worker.entry.program.now result.0.tally tools.new.stack.levels result.1 }
+    ensures room { HasRoom worker.entry.program.now tools.new }
+    ensures program { (result.0.program.now ≡ worker.entry.program.now) × (result.0.firsts.now ≡ worker.entry.firsts.now) }
+{
+    let Worker {
+        mut run,
+        program,
+        firsts,
+        pause,
+        mut tally,
+    } = worker;
+    let victim = next_victim(tally.victim, run.workers());
+    tally.victim = victim;
+    let found = ask(rt, &mut run, &mut tools.scan, victim, pause);
+    let worker = Worker {
+        run,
+        program,
+        firsts,
+        pause,
+        tally,
+    };
+    match found {
+        None => {
+            pause.snooze();
+            (worker, true)
+        }
+        Some(at) => {
+            pause.reset();
+            run_given(worker, tools, gate, at)
+        }
+    }
+}
+
+/// Runs the next entry of the topmost frame, or goes past it. Where it was stolen and is not finished, the worker asks for work.
+fn run_entry<'a, R: Run, G: Gate, W: Wait>(
+    rt: &W,
+    mut worker: Worker<'a, R>,
+    tools: &mut Tools,
+    gate: &G,
+    level: Level,
+) -> (Worker<'a, R>, bool)
+    requires calm { Calm (R.view worker.run) worker.program.now worker.tally (level ∷ tools.old.stack.levels) }
+    requires left { level.next < level.count }
+    requires runnable { IsRunnable worker.program.now }
+    requires firsts { HasFirsts worker.program.now.families worker.firsts.now }
+    requires room { HasRoom worker.program.now tools.old }
+    ensures turns { Turns (R.view worker.entry.run) (R.view result.0.run) worker.entry.program.now result.0.tally tools.new.stack.levels result.1 }
+    ensures room { HasRoom worker.entry.program.now tools.new }
+    ensures program { (result.0.program.now ≡ worker.entry.program.now) × (result.0.firsts.now ≡ worker.entry.firsts.now) }
+{
+    let at = worker.tally.base + level.first + level.next;
+    if level.stolen {
+        return wait_for(rt, worker, tools, gate, level, at);
+    }
+    match worker.run.claim_own(at) {
+        Claim::Won => {
+            tools.stack.push(level);
+            run_begun(worker, tools, gate, at, true)
+        }
+        Claim::Stolen(_) => wait_for(rt, worker, tools, gate, level, at),
+    }
+}
+
+/// Looks at a stolen entry: goes past it where it is finished, and else asks for work once.
+fn wait_for<'a, R: Run, G: Gate, W: Wait>(
+    rt: &W,
+    mut worker: Worker<'a, R>,
+    tools: &mut Tools,
+    gate: &G,
+    level: Level,
+    at: u32,
+) -> (Worker<'a, R>, bool)
+    requires calm { Calm (R.view worker.run) worker.program.now worker.tally (level ∷ tools.old.stack.levels) }
+    requires left { level.next < level.count }
+    requires at { at ≡ worker.tally.base + level.first + level.next }
+    requires runnable { IsRunnable worker.program.now }
+    requires firsts { HasFirsts worker.program.now.families worker.firsts.now }
+    requires room { HasRoom worker.program.now tools.old }
+    ensures turns { Turns (R.view worker.entry.run) (R.view result.0.run) worker.entry.program.now result.0.tally tools.new.stack.levels result.1 }
+    ensures room { HasRoom worker.entry.program.now tools.new }
+    ensures program { (result.0.program.now ≡ worker.entry.program.now) × (result.0.firsts.now ≡ worker.entry.firsts.now) }
+{
+    match worker.run.stand(at).stand {
+        Stand::Finished => {
+            tools.stack.push(Level {
+                next: level.next + 1,
+                stolen: false,
+                ..level
+            });
+            (worker, true)
+        }
+        Stand::Empty | Stand::Unclaimed | Stand::Given(_) | Stand::Running(_) => {
+            tools.stack.push(Level {
+                stolen: true,
+                ..level
+            });
+            steal(rt, worker, tools, gate)
+        }
+    }
+}
+
+/// Where no frame is under way: the worker has come to its end where `main` is finished, and else asks for work once.
+fn idle<'a, R: Run, G: Gate, W: Wait>(
+    rt: &W,
+    mut worker: Worker<'a, R>,
+    tools: &mut Tools,
+    gate: &G,
+) -> (Worker<'a, R>, bool)
+    requires calm { Calm (R.view worker.run) worker.program.now worker.tally tools.old.stack.levels }
+    requires none { tools.old.stack.levels ≡ [] }
+    requires runnable { IsRunnable worker.program.now }
+    requires firsts { HasFirsts worker.program.now.families worker.firsts.now }
+    requires room { HasRoom worker.program.now tools.old }
+    ensures turns { Turns (R.view worker.entry.run) (R.view result.0.run) worker.entry.program.now result.0.tally tools.new.stack.levels result.1 }
+    ensures room { HasRoom worker.entry.program.now tools.new }
+    ensures program { (result.0.program.now ≡ worker.entry.program.now) × (result.0.firsts.now ≡ worker.entry.firsts.now) }
+{
+    match worker.run.stand(0).stand {
+        Stand::Finished => (worker, false),
+        Stand::Empty | Stand::Unclaimed | Stand::Given(_) | Stand::Running(_) => {
+            steal(rt, worker, tools, gate)
+        }
+    }
+}
+
+/// Goes on with the topmost frame.
+fn go_on<'a, R: Run, G: Gate, W: Wait>(
+    rt: &W,
+    worker: Worker<'a, R>,
+    tools: &mut Tools,
+    gate: &G,
+) -> (Worker<'a, R>, bool)
+    requires calm { Calm (R.view worker.run) worker.program.now worker.tally tools.old.stack.levels }
+    requires runnable { IsRunnable worker.program.now }
+    requires firsts { HasFirsts worker.program.now.families worker.firsts.now }
+    requires room { HasRoom worker.program.now tools.old }
+    ensures turns { Turns (R.view worker.entry.run) (R.view result.0.run) worker.entry.program.now result.0.tally tools.new.stack.levels result.1 }
+    ensures room { HasRoom worker.entry.program.now tools.new }
+    ensures program { (result.0.program.now ≡ worker.entry.program.now) × (result.0.firsts.now ≡ worker.entry.firsts.now) }
+{
+    match tools.stack.pop() {
+        None => idle(rt, worker, tools, gate),
+        Some(level) => {
+            if level.next < level.count {
+                run_entry(rt, worker, tools, gate, level)
+            } else {
+                (finish(worker, &mut tools.stack, level), true)
+            }
+        }
+    }
+}
+
+/// One turn: false where the worker has come to its end.
+pub fn turn<'a, R: Run, G: Gate, W: Wait>(
+    rt: &W,
+    mut worker: Worker<'a, R>,
+    tools: &mut Tools,
+    gate: &G,
+) -> (Worker<'a, R>, bool)
+    requires calm { Calm (R.view worker.run) worker.program.now worker.tally tools.old.stack.levels }
+    requires runnable { IsRunnable worker.program.now }
+    requires firsts { HasFirsts worker.program.now.families worker.firsts.now }
+    requires room { HasRoom worker.program.now tools.old }
+    ensures turns { Turns (R.view worker.entry.run) (R.view result.0.run) worker.entry.program.now result.0.tally tools.new.stack.levels result.1 }
+    ensures room { HasRoom worker.entry.program.now tools.new }
+    ensures program { (result.0.program.now ≡ worker.entry.program.now) × (result.0.firsts.now ≡ worker.entry.firsts.now) }
+{
+    if worker.run.stopped() {
+        return (worker, false);
+    }
+    go_on(rt, worker, tools, gate)
+}
