@@ -46,7 +46,7 @@ use Rattle.kt_steps.proofs.Closing.{closes}
 use Rattle.kt_steps.proofs.Drawing.{weigh_less}
 use Rattle.kt_steps.proofs.Steps.{inside}
 use Rattle.kt_pool.specs.declared.closing.Closed.{Closed}
-use Rattle.kt_pool.specs.Closing.{reference_of, ran_in, IsOfReference, IsReferenceRun, Closes, KnowsMain, KnowsStop, Limits}
+use Rattle.kt_pool.specs.Closing.{reference_of, ran_in, IsOfReference, IsExact, IsReferenceRun, Closes, KnowsMain, KnowsStop, Limits}
 use Rattle.kt_pool.specs.Seats.{all_together}
 use Rattle.kt_pool.proofs.Together.{all_know_main, all_know_stop}
 use Rattle.kt_pool.proofs.Paths.{permutes_map, flat_self, in_times, times_in, map_same, map_map, none_in}
@@ -227,15 +227,17 @@ module _ (j : Setup) (rows : List ℕ) (v : View) (r : IsRun j rows v) (quiet : 
         outcome = ap (λ (n : ℕ × ℕ × List ℕ). answered n.0 n.1 (faults_of j.program (reference_of j).entries) n.2)
             (λ i. (sym tasks_now i, sym indexes_now i, sym rows_now i))
             ∙ answered_few c.tasks c.indexes (faults_of j.program (reference_of j).entries) c.rows.items few no_more;
-        paths = r.paths;
-        named = ap (λ (x : Run machine). map (λ (e : Entry machine). e.call.path) x.entries) (sym run) ∙ named_is;
-        once = r.once;
-        claimed = r.claimed;
-        ran = ran_is;
-        entries = subst (λ (x : Run machine). IsPermutation x.entries (map (run_entry j) v.tasks.ran)) run entries_permute;
+        exact = record {
+          paths = r.paths;
+          named = ap (λ (x : Run machine). map (λ (e : Entry machine). e.call.path) x.entries) (sym run) ∙ named_is;
+          once = r.once;
+          claimed = r.claimed;
+          ran = ran_is;
+          entries = subst (λ (x : Run machine). IsPermutation x.entries (map (run_entry j) v.tasks.ran)) run entries_permute;
+          idle = quiet;
+        };
         faults = subst (λ (x : Run machine). IsPermutation (faults_of j.program x.entries) (faults_of j.program (map (run_entry j) v.tasks.ran))) run
             faults_permute;
-        idle = quiet;
       }
 
 -- THE CLOSE

@@ -41,8 +41,17 @@ ran_in v p = times p (map path_of v.tasks.ran)
 abbrev pub IsOfReference : Setup → Path → Type 0
 IsOfReference j p = (k : ℕ) × (x : Entry (machine_of j.program)) × (nth (reference_of j).entries k ≡ Some x) × (x.call.path ≡ map suc p)
 
--- the run is the reference run: its rows and counts are; each path of it stands once in `claimed` and once in `ran`, and
--- no other does; and what ran is what was to run, with the same numbers loaded and the same faults
+-- each task of the reference run was claimed and ran exactly once, no other was or did, and each loaded what it loads there
+pub record IsExact (j : Setup) (v : View) : Type 0 where
+  pub paths : List Path
+  pub named : map (λ e. e.call.path) (reference_of j).entries ≡ map (map suc) paths
+  pub once : (p : Path) → times p paths ≤ 1
+  pub claimed : (p : Path) → claimed_in v p ≡ times p paths
+  pub ran : (p : Path) → ran_in v p ≡ times p paths
+  pub entries : IsPermutation (reference_of j).entries (map (run_entry j) v.tasks.ran)
+  pub idle : (v.tasks.running ≡ []) × (v.tasks.halted ≡ [])
+
+-- the run is the reference run: its rows and counts are, it is exact, and what ran met the same faults
 pub record IsReferenceRun (j : Setup) (c : Closed) (v : View) : Type 0 where
   pub rows : c.rows.items ≡ (reference_of j).store
   pub tasks : c.tasks ≡ length (tasks_of j.program (reference_of j).entries)
@@ -53,14 +62,8 @@ pub record IsReferenceRun (j : Setup) (c : Closed) (v : View) : Type 0 where
     tasks = c.tasks;
     indexes = c.indexes;
   }
-  pub paths : List Path
-  pub named : map (λ e. e.call.path) (reference_of j).entries ≡ map (map suc) paths
-  pub once : (p : Path) → times p paths ≤ 1
-  pub claimed : (p : Path) → claimed_in v p ≡ times p paths
-  pub ran : (p : Path) → ran_in v p ≡ times p paths
-  pub entries : IsPermutation (reference_of j).entries (map (run_entry j) v.tasks.ran)
+  pub exact : IsExact j v
   pub faults : IsPermutation (faults_of j.program (reference_of j).entries) (faults_of j.program (map (run_entry j) v.tasks.ran))
-  pub idle : (v.tasks.running ≡ []) × (v.tasks.halted ≡ [])
 
 -- what the last words of the table and the joined view say, whatever came of the run
 pub record Closes (j : Setup) (c : Closed) (v : View) : Type 0 where

@@ -1,5 +1,5 @@
 //! The close of a pool, and what it answers.
-ghost use Rattle.std.specs.Prelude.{◌≡◌, ◌<◌, ◌≤◌, [], Some, vec_capacity};
+ghost use Rattle.std.specs.Prelude.{◌≡◌, ◌<◌, ◌≤◌, [], Some, length, vec_capacity};
 ghost use Rattle.std.specs.Mem.Slots.{IsFull, slots_items, slots_len};
 ghost use Rattle.kt_rule.specs.Records.{elements};
 ghost use Rattle.kt_words.specs.Places.{total_of};
@@ -47,6 +47,7 @@ impl Closed {
         requires room { (rows.items ≡ []) × (layout.elements ≤ vec_capacity rows) }
         requires seat { token.table_id ≡ table.shared.table_id }
         requires told { (j : Setup) × (token.me.0.setup ≡ Some j) × (layout_of j ≡ layout) × (token.me.0.parts ≡ j.workers) × (0 < j.workers) }
+        ensures count { length result.0.rows.items ≡ layout.elements }
         ensures joined { joined_view result.1 ≡ token.me.0 }
         ensures workers { workers_of result.1 ≡ layout.workers }
         ensures limit { limit_of result.1 ≡ result.0.limit }
@@ -78,7 +79,8 @@ impl Closed {
 fn read_rows(words: &atomic_table::Closed<(), Global>, layout: &Layout, rows: &mut Vec<u64>)
     requires words { IsFull words.now.words × (total_of layout.now ≤ slots_len words.now.words) }
     requires room { (rows.old.items ≡ []) × (layout.now.elements ≤ vec_capacity rows.old) }
-    ensures { rows.new.items ≡ elements layout.now (slots_items words.now.words) }
+    ensures read { rows.new.items ≡ elements layout.now (slots_items words.now.words) }
+    ensures count { length rows.new.items ≡ layout.now.elements }
 {
     for number in 0..layout.elements {
         rows.push_reserved(words.word(layout.element(number)));

@@ -80,6 +80,7 @@ impl Pool {
     /// Ends the run: all seats come back, in the order of their workers, and no other step can be made. The record has what they did.
     pub fn close(self, seats: Vec<Seat>) -> (Closed, Record)
         requires { (j : Setup) × AreSeatsOf j (run_table self) seats.items }
+        ensures count { length result.0.rows.items ≡ (run_table self).layout.elements }
         ensures joined { joined_view result.1 ≡ all_together seats.items }
         ensures lists { IsOfAll (joined_view result.1) seats.items }
         ensures workers { workers_of result.1 ≡ (run_table self).layout.workers }

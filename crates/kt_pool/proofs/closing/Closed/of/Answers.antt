@@ -23,6 +23,6 @@ returns-clause-closes c = λ j told.
     subst (λ v. Closes j closed v) (sym c.new-kept.ensures.1)
     (seen_closes c.args.table.shared.key.items j c.args.token.id c.args.token.me.0 h.0 h.1.0 h.1.1 told (q.3 ∙ ap (λ z. z.workers) same)
     (subst (λ z. 0 < z.workers) same q.4) closed c.args.layout (slots_items c.close_with-words.result.words) c.tasks_drawn.result c.stop.result
-    c.word-stop.result (ap layout_of (sym same) ∙ q.2) h.2 c.read_rows.ensures
+    c.word-stop.result (ap layout_of (sym same) ∙ q.2) h.2 c.read_rows.ensures.read
     (found_word (slots_items c.close_with-words.result.words) c.tasks_drawn.result c.word-tasks.result c.word-tasks.ensures) c.tasks_drawn.ensures.value refl
     (found_word (slots_items c.close_with-words.result.words) c.stop.result c.word-stop.result c.word-stop.ensures) c.stop.ensures.value refl)
