@@ -1,0 +1,4 @@
+pub mod Crossing
+pub mod Leasts
+pub mod Together
+pub mod Ending
