@@ -91,6 +91,29 @@ fn steal<'a, R: Run, G: Gate, W: Wait>(
     }
 }
 
+/// Pauses the first times, since whoever took an entry may be about to finish it, and a search for work goes through all records of a
+/// worker. After that it asks for work once.
+fn pause_or_steal<'a, R: Run, G: Gate, W: Wait>(
+    rt: &W,
+    worker: Worker<'a, R>,
+    tools: &mut Tools,
+    gate: &G,
+) -> (Worker<'a, R>, bool)
+    requires calm { Calm (R.view worker.run) worker.program.now worker.tally tools.old.stack.levels }
+    requires runnable { IsRunnable worker.program.now }
+    requires firsts { HasFirsts worker.program.now.families worker.firsts.now }
+    requires room { HasRoom worker.program.now tools.old }
+    ensures turns { Turns (R.view worker.entry.run) (R.view result.0.run) worker.entry.program.now result.0.tally tools.new.stack.levels result.1 }
+    ensures room { HasRoom worker.entry.program.now tools.new }
+    ensures program { (result.0.program.now ≡ worker.entry.program.now) × (result.0.firsts.now ≡ worker.entry.firsts.now) }
+{
+    if worker.pause.is_completed() {
+        return steal(rt, worker, tools, gate);
+    }
+    worker.pause.snooze();
+    (worker, true)
+}
+
 /// Runs the next entry of the topmost frame, or goes past it. Where it was stolen and is not finished, the worker asks for work.
 fn run_entry<'a, R: Run, G: Gate, W: Wait>(
     rt: &W,
@@ -121,7 +144,7 @@ fn run_entry<'a, R: Run, G: Gate, W: Wait>(
     }
 }
 
-/// Looks at a stolen entry: goes past it where it is finished, and else asks for work once.
+/// Looks at a stolen entry: goes past it where it is finished, and else waits for it or asks for work.
 fn wait_for<'a, R: Run, G: Gate, W: Wait>(
     rt: &W,
     mut worker: Worker<'a, R>,
@@ -142,6 +165,7 @@ fn wait_for<'a, R: Run, G: Gate, W: Wait>(
 {
     match worker.run.stand(at).stand {
         Stand::Finished => {
+            worker.pause.reset();
             tools.stack.push(Level {
                 next: level.next + 1,
                 stolen: false,
@@ -154,7 +178,7 @@ fn wait_for<'a, R: Run, G: Gate, W: Wait>(
                 stolen: true,
                 ..level
             });
-            steal(rt, worker, tools, gate)
+            pause_or_steal(rt, worker, tools, gate)
         }
     }
 }

@@ -12,8 +12,8 @@ push-requires g c = let few = below_few _ _ _ _ _ c.requires.calm in rw c.requir
 pub push-requires-in-Empty : goal.push-requires-in-Empty
 push-requires-in-Empty g c = let few = below_few _ _ _ _ _ c.requires.calm in rw c.requires.room.stack few
 
-pub steal-requires-clause-calm : goal.steal-requires-clause-calm
-steal-requires-clause-calm g c =
+pub pause_or_steal-requires-clause-calm : goal.pause_or_steal-requires-clause-calm
+pause_or_steal-requires-clause-calm g c =
     let s = calm_stands _ _ _ _ _ c.args.at _ c.stand.ensures.looked c.requires.calm in
     rw (ap (λ (f : Frames). f.levels) c.push-in-Empty.ensures) (calm_stolen _ _ _ _ _ s.0 c.requires.left true)
 
@@ -25,4 +25,4 @@ returns-in-Finished-clause-turns g c =
 pub returns-in-Empty-clause-turns : goal.returns-in-Empty-clause-turns
 returns-in-Empty-clause-turns g c =
     let s = calm_stands _ _ _ _ _ c.args.at _ c.stand.ensures.looked c.requires.calm in
-    turns_after (g.R.Run.view c.args.worker.run) (g.R.Run.view c.stand.new.self) _ _ _ _ _ s.1 c.steal.ensures.turns
+    turns_after (g.R.Run.view c.args.worker.run) (g.R.Run.view c.stand.new.self) _ _ _ _ _ s.1 c.pause_or_steal.ensures.turns
