@@ -1,8 +1,8 @@
 -- A claim for a thief, told with the state that its exchange finds.
-use Rattle.std.proofs.Common.{◌≡◌, ◌≢◌, ℕ, ◌*◌, ◌<◌, ◌==◌, ne_eqb, eq-eqb, MatchBool, true, false, List, ◌∷◌, sym, refl, ap, ◌∙◌, subst, get_or, slice_index, Some}
+use Rattle.std.proofs.Common.{◌≡◌, ℕ, ◌*◌, ◌<◌, ◌==◌, ne_eqb, eq-eqb, MatchBool, true, false, List, ◌∷◌, sym, ap, ◌∙◌, get_or, slice_index, Some}
 use mathlib.Core.Option.{none}
 use prog.Atomic.{either}
-use Rattle.atomic_table.specs.Table.{State, Me, step, Allows}
+use Rattle.atomic_table.specs.Table.{Me, step, Allows}
 use Rattle.kt_law.specs.declared.stands.Stand.TheVariants as S
 use Rattle.kt_words.specs.Words.{IsStateWord, packed_state}
 use Rattle.kt_words.specs.declared.layouts.TheConstants.{RECORDS}
@@ -14,7 +14,6 @@ use Rattle.kt_rule.specs.declared.views.View.{View}
 use Rattle.kt_rule.specs.Records.{layout_of}
 use Rattle.kt_rule.specs.Rule.{Slots, Holds}
 use Rattle.kt_rule.specs.Steps.{Tells, state_place, state_word, IsState, IsFound, IsReady, won_for, lost_one}
-use Rattle.kt_steps.specs.Told.{ClaimsForAt}
 use Rattle.kt_steps.proofs.Steps.{inside}
 use Rattle.kt_steps.proofs.Looks.{packed_there}
 use Rattle.kt_steps.proofs.Telling.{claims_for_at}

@@ -1,7 +1,7 @@
 -- The loads of a scan, told of whichever note is the newest.
-use Rattle.std.proofs.Common.{◌≡◌, ℕ, ◌+◌, ◌<◌, ◌≤◌, List, [], ◌∷◌, ◌++◌, All, true, false, length, sym, refl, ap, ◌∙◌, subst, arith, get_or, slice_index, Some}
+use Rattle.std.proofs.Common.{◌≡◌, ℕ, ◌+◌, ◌<◌, ◌≤◌, List, [], ◌∷◌, ◌++◌, true, false, length, sym, refl, ap, ◌∙◌, subst, arith, get_or, Some}
 use mathlib.Core.Option.{none}
-use Rattle.atomic_table.specs.Table.{State, Me, Step, step, Allows}
+use Rattle.atomic_table.specs.Table.{Me, step, Allows}
 use Rattle.kt_law.specs.declared.accesses.Access.{Access}
 use Rattle.kt_words.specs.Places.{place, record_word}
 use Rattle.kt_words.specs.Words.{IsHeadWord, packed_head, IsAccess, packed_access}

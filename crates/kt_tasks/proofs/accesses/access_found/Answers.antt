@@ -1,4 +1,4 @@
-use Rattle.std.proofs.Common.{◌≡◌, ◌<◌, ◌+◌, arith, sym, ap, ◌∙◌, subst}
+use Rattle.std.proofs.Common.{◌+◌, arith, sym, ◌∙◌, subst}
 use Rattle.kt_words.specs.Places.{place, record_word}
 use Rattle.kt_words.specs.declared.layouts.Layout.{Layout}
 use Rattle.kt_rule.specs.Records.{layout_of}

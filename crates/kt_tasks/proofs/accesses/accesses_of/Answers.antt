@@ -1,4 +1,4 @@
-use Rattle.std.proofs.Common.{◌≡◌, ◌<◌, ◌≤◌, ◌+◌, List, All, [], ◌∷◌, ◌++◌, length, arith, sym, refl, ap, ◌∙◌, subst}
+use Rattle.std.proofs.Common.{◌+◌, List, All, [], ◌∷◌, length, arith, sym, ap, ◌∙◌, subst}
 use Rattle.std.proofs.lemmas.List.Elements.{All-append, All-cons, All-nil}
 use Rattle.kt_law.specs.declared.accesses.Access.{Access}
 use Rattle.kt_tasks.specs.Accesses.{IsAmong}

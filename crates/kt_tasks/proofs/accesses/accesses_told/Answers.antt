@@ -1,6 +1,5 @@
-use Rattle.std.proofs.Common.{◌≡◌, ◌<◌, arith, sym, ap, ◌∙◌, subst}
+use Rattle.std.proofs.Common.{arith, sym, ◌∙◌}
 use Rattle.kt_words.specs.Places.{place, record_word}
-use Rattle.kt_rule.specs.declared.views.Note.{Note}
 use Rattle.kt_tasks.proofs.Scanning.{heads_told, headed_is}
 use Rattle.kt_tasks.proofs.accesses.accesses_told.Goals as goal
 

@@ -1,4 +1,4 @@
-use Rattle.std.proofs.Common.{◌≡◌, ℕ, ◌*◌, ◌<◌, arith, ◌∙◌, sym, subst, refl}
+use Rattle.std.proofs.Common.{ℕ, ◌*◌, ◌<◌, arith, ◌∙◌, sym, subst, refl}
 use Rattle.kt_law.specs.declared.stands.Stand.TheVariants as S
 use Rattle.kt_words.specs.Places.{place, record_word}
 use Rattle.kt_words.specs.declared.layouts.TheConstants.{RECORDS}
