@@ -67,7 +67,7 @@ pub trait Run {
         requires may { MayPublish (view self.old) parent at frame fork child.now }
         ensures published { HasPublished (view self.old) parent at frame fork child.now (view self.new) result };
 
-    /// Claims a record of the seat's own region.
+    /// Claims a record of the seat's own region. A lost claim is a look at it.
     fn claim_own(&mut self, at: u32) -> Claim
         requires crew { IsOfCrew (view self.old) }
         requires inside { IsRecord (view self.old) at }

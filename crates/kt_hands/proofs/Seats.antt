@@ -46,7 +46,7 @@ serves v w none s = record {
 pub claimed_same : (v w : View) (at : ℕ) (c : Claim) (m : Spot) → IsMine v at m → Claimed v at w c → IsSame v w
 claimed_same v w at C.Won m mine h = let e = h m mine in
     record { setup = ap (λ (y : View). y.setup) e; parts = ap (λ (y : View). y.parts) e; worker = ap (λ (y : View). y.worker) e }
-claimed_same v w at (C.Stolen stand) m mine h = let e = h.2 in
+claimed_same v w at (C.Stolen stand) m mine h = let e = (h.2 m mine).1 in
     record { setup = ap (λ (y : View). y.setup) e; parts = ap (λ (y : View). y.parts) e; worker = ap (λ (y : View). y.worker) e }
 
 pub published_same : (v w : View) (parent at frame fork : ℕ) (child : CallTree) (p : Published) → MayPublish v parent at frame fork child

@@ -8,7 +8,7 @@ use Rattle.kt_rule.specs.declared.views.Setup.{Setup}
 use Rattle.kt_rule.specs.declared.views.Spot.{Spot}
 use Rattle.kt_rule.specs.declared.views.View.{View}
 use Rattle.kt_rule.specs.Views.{main_spot}
-use Rattle.kt_rule.specs.Steps.{BeforeKnown, won_own}
+use Rattle.kt_rule.specs.Steps.{BeforeKnown, stands, state_word, won_own}
 use Rattle.kt_steps.specs.Told.{IsLiveOf, IsMine}
 use Rattle.kt_tasks.specs.Claims.{Claimed}
 use Rattle.kt_tasks.specs.declared.states.Claim.{Claim}
@@ -31,9 +31,6 @@ pub record Keeps (v w : View) : Type 0 where
 
 pub keeps_is : (v w u : View) → w ≡ u → Keeps v u → Keeps v w
 keeps_is v w u e h = subst (Keeps v) (sym e) h
-
-pub same_keeps : (v : View) → Keeps v v
-same_keeps v = record { setup = refl; worker = refl; parts = refl; made = refl; spots = refl }
 
 pub seat_keeps : (j : Setup) (t : RunTable) (k : ℕ) (s s' : Seat) → s'.token.table_id ≡ s.token.table_id → s'.token.me.1 ≡ s.token.me.1
     → s'.worker ≡ s.worker → Keeps s.token.me.0 s'.token.me.0 → IsSeatOf j t k s → IsSeatOf j t k s'
@@ -63,7 +60,8 @@ mains_claim v (a, at) = (main_spot, (a, at, refl), λ q k e. absurd (nil_child q
 pub claim_keeps : (v w : View) (m : Spot) (c : Claim) → IsMine v 0 m → Claimed v 0 w c → Keeps v w
 claim_keeps v w m C.Won mine h = keeps_is v w (won_own v m) (h m mine)
     (record { setup = refl; worker = refl; parts = refl; made = refl; spots = refl })
-claim_keeps v w m (C.Stolen stand) mine h = keeps_is v w v h.2 (same_keeps v)
+claim_keeps v w m (C.Stolen stand) mine h = keeps_is v w (stands v 0 (state_word m.berth stand)) (h.2 m mine).1
+    (record { setup = refl; worker = refl; parts = refl; made = refl; spots = refl })
 
 the_some : {X : Type 0} → {x y : X} → Some x ≡ Some y → x ≡ y
 the_some h = cc

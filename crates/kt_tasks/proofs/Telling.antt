@@ -1,6 +1,8 @@
 -- The kinds of step as these calls tell them.
-use Rattle.std.proofs.Common.{◌≡◌, ◌≢◌, ℕ, suc, ◌+◌, ◌*◌, ◌%◌, ◌^◌, ◌<◌, ◌==◌, Bool, true, false, List, [], ◌∷◌, length, set, slice_index, sym, refl, ap, ◌∙◌, subst, inl, inr, arith, MatchBool, Some}
+use Rattle.std.proofs.Common.{◌≡◌, ◌≢◌, ℕ, suc, ◌+◌, ◌*◌, ◌%◌, ◌^◌, ◌<◌, ◌==◌, Bool, true, false, List, [], ◌∷◌, length, set, slice_index, sym, refl, ap, ◌∙◌, subst, inl, inr, arith, MatchBool, eq-eqb, ne_eqb, Some}
 use mathlib.Core.Option.{none, some}
+use mathlib.Core.Logic.{dite}
+use native.Mathlib.Decide.{ℕ_discrete}
 use prog.Atomic.{either}
 use lib.ListN.{get_elem?}
 use Rattle.atomic_table.specs.Table.{State, Me, Act, keeps, stepped, step, Allows}
@@ -37,12 +39,13 @@ use Rattle.kt_steps.proofs.Steps.{inside, same_state}
 use Rattle.kt_steps.proofs.Asides.{builds_one}
 use Rattle.kt_steps.proofs.Drawing.{draws}
 use Rattle.kt_steps.proofs.Fresh.{publishes}
-use Rattle.kt_steps.proofs.Telling.{the_some, claims_own_at, starts_given_at}
+use Rattle.kt_steps.proofs.Telling.{the_some, claims_own_at, stands_told, starts_given_at}
 use Rattle.kt_tasks.specs.Claims.{AreFew, ClaimsOwnFew, StartsFew}
 use Rattle.kt_tasks.specs.Fields.{SetsField, PublishesAs}
 use Rattle.kt_tasks.specs.Hands.{IsInHand, IsHeld, IsFieldOf, HasFields, LooksHeld}
 use Rattle.kt_tasks.specs.Publications.{DrawsNext}
 use Rattle.kt_tasks.proofs.Counted.{few_there, counted}
+use Rattle.kt_tasks.proofs.Found.{won_is}
 
 -- the view after a step is of a seat with few tasks
 few_after : (opening : List ℕ) (j : Setup) (s : State Slots View) (i n id : ℕ) (c : List (ℕ × Slots)) (v w : View) (a : Act Slots)
@@ -51,26 +54,59 @@ few_after opening j s i n id c v w a at h live setup =
     let now : get_elem? (set s.views id w) id ≡ some w = set_here s.views id w (at_below s.views id v at) in
     let y = inside opening (stepped s i n id c w a) j id w h now live setup in few_there j y.0 (stepped s i n id c w a) y.1 id w now
 
--- whether the claim was won or not, the seat is the same
-same_seat : (b : Bool) (v w : View) (m : Spot) (X : Type 0) → MatchBool b (w ≡ won_own v m) (X × (w ≡ v))
-    → (w.setup ≡ v.setup) × (w.parts ≡ v.parts)
-same_seat true v w m X h = (ap (λ (z : View). z.setup) h, ap (λ (z : View). z.parts) h)
-same_seat false v w m X h = (ap (λ (z : View). z.setup) h.1, ap (λ (z : View). z.parts) h.1)
+-- where an exchange finds another word, it changes nothing
+untouched : (n old new : ℕ) → n ≢ old → n ≡ either (n == old) new n
+untouched n old new miss = sym (ap (λ (b : Bool). either b new n) (ne_eqb n old miss))
+
+-- what is told of a claim that was won, and of one that was lost: then the exchange was a look
+won_told : (b : Bool) (A B C : Type 0) → b ≡ true → MatchBool b A B → MatchBool b A C
+won_told true A B C e h = h
+won_told false A B C e h = absurd (cc e)
+
+looked_told : (b : Bool) (W V B C X : Type 0) → b ≡ false → MatchBool b W (B × X) → C → MatchBool b V (B × C)
+looked_told true W V B C X e h look = absurd (cc e)
+looked_told false W V B C X e h look = (h.0, look)
 
 module _ (opening : List ℕ) (slots id : ℕ) (me : Me Slots View) (j : Setup) (setup : me.0.setup ≡ Some j) (live : 0 < me.0.parts) where
   pub claims_own_few : (m : Spot) (a i old new : ℕ) → get_elem? me.0.region.spots a ≡ some m → BeforeKnown me.0 m.path
+      → m.berth.at < RECORDS * j.workers
       → i ≡ state_place (layout_of j) m.berth.at → old ≡ state_word m.berth S.Unclaimed → new ≡ state_word m.berth (S.Running me.0.worker)
       → Allows (Holds opening) slots id me i (λ n. either (n == old) new n) (Tells ClaimsOwnFew (step slots i old new none) me)
-  claims_own_few m a i old new at_a before i_is old_is new_is s h out at word =
+  claims_own_few m a i old new at_a before in_a i_is old_is new_is s h out at word =
+      let n : ℕ = slice_index s.words i in
       let d = claims_own_at opening slots id me j setup live m a i old new at_a before i_is old_is new_is s h out at word in
-      let same = same_seat (slice_index s.words i == old) me.0 d.0 m _ (d.4.0 m (j, setup, (a, at_a), i_is)) in
-      let parts = same.1 in (
+      let look = stands_told opening slots id me j setup live m.berth.at i in_a i_is s h out at word in
+      dite (ℕ_discrete n old)
+      (λ hit.
+      let same = won_is n old (d.0 ≡ won_own me.0 m) _ hit (d.4.0 m (j, setup, (a, at_a), i_is)) in
+      let parts = ap (λ (z : View). z.parts) same in (
         d.0,
         d.1,
         d.2,
         d.3,
-        ((d.4.0, few_after opening j s i _ id me.1 me.0 d.0 d.1 at d.3 (omega arith) (same.0 ∙ setup)), d.4.1),
-      )
+        (
+          (
+            (λ o here. won_told (n == old) _ _ _ (eq-eqb n old hit) (d.4.0 o here)),
+            few_after opening j s i _ id me.1 me.0 d.0 d.1 at d.3 (omega arith) (ap (λ (z : View). z.setup) same ∙ setup),
+          ),
+          d.4.1,
+        ),
+      ))
+      (λ miss.
+      let same = (look.4.0 j setup m.berth.at in_a i_is).1 in let parts = ap (λ (z : View). z.parts) same in
+      let holds = subst (λ (k : ℕ). Holds opening (stepped s i k id me.1 look.0 look.1)) (untouched n old new miss) look.3 in (
+        look.0,
+        look.1,
+        look.2,
+        holds,
+        (
+          (
+            (λ o here. looked_told (n == old) _ _ _ _ _ (ne_eqb n old miss) (d.4.0 o here) look.4.0),
+            few_after opening j s i _ id me.1 me.0 look.0 look.1 at holds (omega arith) (ap (λ (z : View). z.setup) same ∙ setup),
+          ),
+          look.4.1,
+        ),
+      ))
 
   pub starts_few : (m : Spot) (rest : List Spot) (i new : ℕ) → me.0.tasks.given ≡ m ∷ rest
       → i ≡ state_place (layout_of j) m.berth.at → new ≡ state_word m.berth (S.Running me.0.worker)

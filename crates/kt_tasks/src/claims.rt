@@ -1,9 +1,11 @@
 //! Claims, starts and finishes.
 //!
 //! A claim is a fetch-and-compare: several workers may try it, and the state
-//! word decides. A start and a finish are stores: the task is one worker's by
-//! then, and nobody else may write its state. They load the word first, for the
-//! frame and the fork that it keeps; a claim for a thief has noted it.
+//! word decides. Where it decides against the owner of the record, the exchange
+//! has loaded the word and changed nothing, so it is a look at the record. A
+//! start and a finish are stores: the task is one worker's by then, and nobody
+//! else may write its state. They load the word first, for the frame and the
+//! fork that it keeps; a claim for a thief has noted it.
 ghost use Rattle.std.specs.Prelude.{◌≡◌, ◌≢◌, ℕ, ◌*◌, ◌<◌, [], ◌∷◌, List};
 ghost use mathlib.Core.Option.{some};
 ghost use lib.ListN.{get_elem?};
@@ -140,7 +142,8 @@ pub fn claim_for(t: &RunTable, s: &mut Seat, at: u32, state: StateWord, thief: u
     Offer::Lost(word)
 }
 
-/// Claims a record of the seat's own region, all earlier entries of whose frame it knows finished.
+/// Claims a record of the seat's own region, all earlier entries of whose frame it knows finished. Where it is lost, the view is the one
+/// after a `stand` that found the word of the exchange; the seat's `word` stays.
 pub fn claim_own(t: &RunTable, s: &mut Seat, at: u32) -> Claim
     requires seat { s.old.token.table_id ≡ t.now.table.shared.table_id }
     requires live { IsLiveOf t.now.layout s.old.worker s.old.token.me.0 }

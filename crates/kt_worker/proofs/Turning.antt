@@ -25,12 +25,13 @@ use Rattle.kt_rule.specs.declared.views.Tasks.{Tasks}
 use Rattle.kt_rule.specs.declared.views.View.{View}
 use Rattle.kt_rule.specs.Lists.{In, here, there}
 use Rattle.kt_rule.specs.Records.{stand_in}
-use Rattle.kt_rule.specs.Steps.{BeforeKnown, begun_by, ends, knows_stop, learnt, over, paths_at, stands, starts, won_own}
+use Rattle.kt_rule.specs.Steps.{BeforeKnown, begun_by, ends, knows_stop, learnt, over, paths_at, stands, starts, state_word, won_own}
 use Rattle.kt_rule.specs.Views.{main_spot, no_tasks}
 use Rattle.kt_rule.proofs.Moves.{at_below}
 use Rattle.kt_rule.proofs.Words.{word_parts}
 use Rattle.kt_steps.specs.Told.{IsEnded, IsMine}
-use Rattle.kt_tasks.specs.Claims.{AreFew}
+use Rattle.kt_tasks.specs.Claims.{AreFew, Claimed}
+use Rattle.kt_tasks.specs.declared.states.Claim.TheVariants as C
 use Rattle.kt_tasks.specs.Hands.{IsHeld}
 use Rattle.kt_calls.specs.Ranges.{IsOfCrew, IsRecord, IsWorker}
 use Rattle.kt_faults.specs.First.{earlier}
@@ -460,6 +461,12 @@ module _ (v : View) (p : Program) (t : Tally) (l : Level) (levels : List Level) 
           },
           keeps,
         )
+
+    -- it was found stolen
+    pub calm_lost : (w : View) (stand : Stand) (at : ℕ) → at ≡ t.base + l.first + l.next → Claimed v at w (C.Stolen stand)
+        → Calm w p t (l ∷ levels) × Extends v w
+    calm_lost w stand at is h =
+        calm_stands v w p t (l ∷ levels) at (state_word (entry.0).berth stand) (h.2 entry.0 (mine at is)).1 c
 
     -- it is remembered that the entry was stolen
     pub calm_stolen : (b : Bool) → Calm v p t (record l { stolen = b } ∷ levels)

@@ -2,7 +2,7 @@ use Rattle.std.proofs.Common.{◌≡◌, ap, ◌∙◌, refl, sym, subst, List, 
 use Rattle.kt_rule.specs.declared.views.View.{View}
 use Rattle.kt_worker.specs.Levels.{Calm, Extends}
 use Rattle.kt_worker.proofs.Begun.{extends_same}
-use Rattle.kt_worker.proofs.Turning.{begun_main, calm_crew, main_inside, may_claim_main, turns_after}
+use Rattle.kt_worker.proofs.Turning.{begun_main, calm_crew, calm_stands, main_inside, may_claim_main, turns_after}
 use Rattle.kt_worker.proofs.working.first_turn.Goals as goal
 
 pub claim_own-requires : goal.claim_own-requires
@@ -23,7 +23,8 @@ returns-then-worker-ne0-clause-turns g c = rw c.requires.empty (c.requires.calm,
 pub returns-in-Stolen-clause-turns : goal.returns-in-Stolen-clause-turns
 returns-in-Stolen-clause-turns g c =
     let h = (c.in-Stolen.ensures {u = tt}).claimed in
-    rw c.requires.empty (subst (λ (x : View). Calm x c.args.worker.program.now c.args.worker.tally [] × Extends (g.R.Run.view c.args.worker.run) x) (sym h.2) (c.requires.calm, extends_same _))
+    let main = may_claim_main _ _ _ c.requires.calm c.requires.fresh c.if-worker-ne0.false in
+    rw c.requires.empty (calm_stands _ _ _ _ [] 0 _ (h.2 main.0 main.1).1 c.requires.calm)
 
 pub returns-in-Won-clause-turns : goal.returns-in-Won-clause-turns
 returns-in-Won-clause-turns g c =
