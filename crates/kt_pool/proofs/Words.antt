@@ -150,6 +150,7 @@ opens j xs some_workers xs_are long =
       wide = let a = words_long l xs long in omega arith;
       input = elements_are l xs some_workers long ∙ xs_are;
       drawn = drawn_is l xs some_workers;
+      positions = not_drawn l xs some_workers Rattle.kt_rule.specs.Records.positions_at tt (λ e. cc) (λ e. cc);
       stop = not_drawn l xs some_workers Rattle.kt_rule.specs.Records.stop_at tt (λ e. cc) (λ e. cc);
       state = main_is l xs some_workers;
       head = field 1 (omega arith) (omega arith) ∙ head_zero;

@@ -21,6 +21,8 @@ use Rattle.kt_rule.proofs.Shelf as shelf
 use Rattle.kt_rule.proofs.Shelf.{elements_else}
 use Rattle.kt_rule.proofs.Sums.{tally_step}
 use Rattle.kt_rule.proofs.Words.{nothing_changes}
+use Rattle.kt_rule.specs.LoopWords.{loop_words}
+use Rattle.kt_rule.proofs.LoopsStay.{loops_stay, looped_same}
 use Rattle.kt_rule.proofs.Moves.{each_view, drawn_keeps, assemble}
 use Rattle.kt_steps.proofs.Asides.{seat_in, main_lives, record_stays, plain_keeps, plain_core, plain_words, plain_fits}
 
@@ -64,10 +66,10 @@ module _ (j : Setup) (lies : Lies) (s : State Slots View) (f : Facts j lies s) w
     pub elements_stay : elements l ws' ≡ elements l s.words
     elements_stay = elements_else l s.words q n less tt
 
-    pub desk_step : (id : ℕ) (v : View) → get_elem? s.views id ≡ some v → 0 < v.parts → (d : Desk)
+    pub desk_step : loop_words l ws' ≡ loop_words l s.words → (id : ℕ) (v : View) → get_elem? s.views id ≡ some v → 0 < v.parts → (d : Desk)
         → Asked l lies ws' (set s.views id (record v { desk = d }))
         → Facts j lies record { words = ws'; homes = s.homes; views = set s.views id (record v { desk = d }) }
-    desk_step id v at live d asked =
+    desk_step quiet id v at live d asked =
         let w : View = record v { desk = d } in
         let fits : (i : ℕ) (x : View) → get_elem? s.views i ≡ some x → Fits j lies ws' i x =
         (λ i x e. plain_fits j lies s f q less tt n (λ h. stop_stays ∙ h) i x (seat_in j lies s f i x e) (f.fits i x e)) in
@@ -91,6 +93,7 @@ module _ (j : Setup) (lies : Lies) (s : State Slots View) (f : Facts j lies s) w
                   (stop_stays ∙ h.0, (let a = drawn_stays in let b = h.1 in omega arith))
             ];
           };
+          looped = looped_same l lies lies s.words ws' s.views id v w f.looped (loops_stay lies) at refl quiet;
           fits = fits_desk j lies ws' id v d (fits id v at);
           others = λ i x ne e. fits i x e;
           unmade = λ a from low z. record_stays j lies s f q less tt n a 0 low (omega arith) ∙ z;
@@ -125,6 +128,7 @@ module _ (j : Setup) (lies : Lies) (s : State Slots View) (f : Facts j lies s) w
         };
         drawn = drawn_keeps j lies lies s.words s.words s.views id v w f.drawn at refl refl refl (λ p h. h) refl (λ p. omega arith);
         stopped = f.stopped;
+        looped = looped_same l lies lies s.words s.words s.views id v w f.looped (loops_stay lies) at refl refl;
         fits = fits_desk j lies s.words id v d (f.fits id v at);
         others = λ i x ne e. f.fits i x e;
         unmade = λ a from low z. z;

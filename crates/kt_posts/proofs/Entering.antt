@@ -19,6 +19,7 @@ use Rattle.kt_steps.proofs.Entering.{nothing_moves, stays_still}
 use Rattle.kt_posts.specs.Desks.{is_answer, posts, sees, gets_piece, freed, takes_task, leads_now, holds_one}
 use Rattle.kt_posts.specs.Told.{Took}
 use Rattle.kt_posts.specs.Laws.{after_post, after_request, after_look, PostStays, LeadStays, BusyStays, PostLoadStays, AnswerLoadStays, HoldStays, LookStays, FailedStays, TaskStays, WriteStays, PieceStays, TakeStays, WithdrawStays, ReleaseStays}
+use Rattle.kt_posts.proofs.PieceWords.{none_in_hand}
 use Rattle.kt_posts.proofs.PostWords.{is_answered}
 use Rattle.kt_posts.proofs.Desking.{elements_stay}
 use Rattle.kt_posts.proofs.ThiefSteps as thief
@@ -86,7 +87,7 @@ pub failed_stays : FailedStays
 failed_stays j s (lies, f) id v (at, live) k k_in = post_enters j lies s f id _ k
     (leader.thief_less j lies s f id v at live k k_in) P.Failed
     (leader.answers_it j lies s f id v at live k k_in P.Failed refl (record { number_fits = omega Rattle.std.proofs.Common.arith })
-    (λ b e. cc))
+    (λ b e. cc) refl)
 
 pub task_stays : TaskStays
 task_stays j s (lies, f) id v (at, live) m m_in k_in =
@@ -108,10 +109,7 @@ write_stays j s (lies, f) id v (at, live) k word k_in =
     )
 
 pub piece_stays : PieceStays
-piece_stays j s (lies, f) id v (at, live) e a e_in fits_o =
-    let k_in = ((f.asked.desks id v at live).wrote e e_in).0 in
-    post_enters j lies s f id _ e.thief (leader.thief_less j lies s f id v at live e.thief k_in) (P.Piece a)
-    (leader.answers_it j lies s f id v at live e.thief k_in (P.Piece a) refl fits_o (λ b d. cc))
+piece_stays j s (lies, f) id v (at, live) e x e_in x_in is fits_o = absurd (none_in_hand j lies s f id v at x x_in)
 
 pub take_stays : TakeStays
 take_stays j s (lies, f) id v (at, live) saw =

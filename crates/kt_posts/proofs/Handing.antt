@@ -1,6 +1,6 @@
 -- A claimed task goes from one hand to the next by a step on a post word. Its record's words stay, and so does the core,
 -- for which it runs.
-use Rattle.std.proofs.Common.{◌≡◌, ◌≢◌, ℕ, zero, suc, ◌+◌, ◌<◌, false, List, [], map, set, sym, refl, ap, ◌∙◌, subst, inl, inr, arith}
+use Rattle.std.proofs.Common.{◌≡◌, ◌≢◌, ℕ, zero, suc, ◌+◌, ◌<◌, true, false, List, [], map, set, sym, refl, ap, ◌∙◌, subst, inl, inr, arith}
 use mathlib.Core.Option.{some}
 use lib.ListN.{get_elem?}
 use Rattle.atomic_table.specs.Table.{State}
@@ -25,12 +25,15 @@ use Rattle.kt_rule.specs.Records.{layout_of, elements, later_field}
 use Rattle.kt_rule.specs.Views.{path_of, mine_in, claimed_in, given_in, begun_in}
 use Rattle.kt_rule.specs.Facts.{is_there, is_claimed, is_given, is_begun, tally, Sound, Words, IsGiven, Owns, Fits, waiting}
 use Rattle.kt_rule.specs.Requests.{Asked}
+use Rattle.kt_rule.specs.LoopWords.{loop_words}
+use Rattle.kt_rule.specs.LoopFacts.{is_early}
 use Rattle.kt_rule.specs.Rule.{Slots, Facts}
 use Rattle.kt_rule.proofs.Puts.{put_else, put_cases}
 use Rattle.kt_rule.proofs.Sums as sums
 use Rattle.kt_rule.proofs.Sums.{not_among}
 use Rattle.kt_rule.proofs.Cores as cores
 use Rattle.kt_rule.proofs.Words.{Keeps, berth_keeps, known_keeps, note_keeps, says_state, Turn, turn_back, turn_keeps, turn_words}
+use Rattle.kt_rule.proofs.LoopsStay.{put_stay, looped_same}
 use Rattle.kt_rule.proofs.Moves.{drawn_keeps, assemble, fits_keep, turn_owns, positive_not}
 use Rattle.kt_steps.proofs.Steps.{none_begun, under_way_else, over_else}
 use Rattle.kt_steps.proofs.Asides.{seat_in, main_lives, record_stays, plain_keeps, plain_words, plain_fits}
@@ -45,6 +48,16 @@ not_gone (Runs k) a = refl
 not_gone (Loops k) a = refl
 not_gone Done a = refl
 not_gone Gone a = absurd (omega arith)
+
+not_looped : (x : Stage) → is_begun x ≡ 0 → is_early x ≡ true
+not_looped Waits a = refl
+not_looped (Promised k) a = refl
+not_looped (Posted k) a = refl
+not_looped (Given k) a = refl
+not_looped (Runs k) a = refl
+not_looped (Loops k) a = absurd (omega arith)
+not_looped Done a = absurd (omega arith)
+not_looped Gone a = absurd (omega arith)
 
 not_over : Running ≡ Finished → ⊥
 not_over e = cc
@@ -144,12 +157,12 @@ module _ (j : Setup) (lies : Lies) (s : State Slots View) (f : Facts j lies s) (
     abbrev w : View
     w = record v { tasks = record v.tasks { promised = promised; given = given }; desk = d }
 
-    pub handed : Asked l lies' ws' (set s.views id w)
+    pub handed : loop_words l ws' ≡ loop_words l s.words → Asked l lies' ws' (set s.views id w)
         → ((r : Path) → given_in w r + tally is_given (lies r) ≡ given_in v r + tally is_given (lies' r))
         → ((m : Spot) → In m given → IsGiven lies' m)
         → ((i : ℕ) (x : View) → i ≢ id → get_elem? s.views i ≡ some x → given_in x p ≡ 0)
         → Facts j lies' record { words = ws'; homes = s.homes; views = set s.views id w }
-    handed asked given_so gives alone = assemble j lies lies' s ws' id v w f at live (record {
+    handed quiet asked given_so gives alone = assemble j lies lies' s ws' id v w f at live (record {
       parts = refl;
       made = refl;
       keeps = keeps_all;
@@ -179,6 +192,15 @@ module _ (j : Setup) (lies : Lies) (s : State Slots View) (f : Facts j lies s) (
           )
         ];
       };
+      looped = looped_same l lies lies' s.words ws' s.views id v w f.looped (put_stay lies p t u is (record {
+        berth = refl;
+        first = refl;
+        unretired = refl;
+        indexes = refl;
+        pieces = refl;
+        gone = not_gone to idle_to ∙ sym (not_gone t.stage idle);
+        early = λ e. not_looped t.stage idle;
+      })) at refl quiet;
       fits = fits_own;
       others = λ i x ne e. let g = alone i x ne e in let b = none_begun j lies s f p t is idle i x e in
           fits_keep j lies ws' lies' ws' still_keeps i x (fits_before i x e) (owns_now i x (seat_in j lies s f i x e)) (λ h. h)

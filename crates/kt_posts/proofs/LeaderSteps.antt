@@ -33,6 +33,7 @@ use Rattle.kt_rule.proofs.Moves.{each_view}
 use Rattle.kt_steps.proofs.Steps.{none_given, given_else, promised_else}
 use Rattle.kt_steps.proofs.Asides.{seat_in}
 use Rattle.kt_posts.specs.Desks.{is_answer, is_idle, without, unwritten, other_promises, leads_now, holds_one, writes_one, answers_one, gives_one, releases_now}
+use Rattle.kt_posts.proofs.PieceWords.{piece_of, request_quiet, answer_quiet, post_quiet}
 use Rattle.kt_posts.proofs.PostWords.{post_same, idle_zero, not_idle_pos, is_answered, held_one, task_one}
 use Rattle.kt_posts.proofs.Without.{in_without, without_in, in_unwritten, kept_promises, in_kept, same_drop, kept_times}
 use Rattle.kt_posts.proofs.Desking.{desk_step, desk_learned}
@@ -103,7 +104,7 @@ module _ (j : Setup) (lies : Lies) (s : State Slots View) (f : Facts j lies s) (
       let b : word_at l s.words (worker_word u.desk.victim request) ≡ word_at l s.words (worker_word x request) = ap
       (λ (z : ℕ). word_at l s.words (worker_word z request)) same_victim in absurd (omega arith)) in
       let d : Desk = (leads_now v x).desk in
-      desk_step j lies s f x request less (suc id) id v at live d
+      desk_step j lies s f x request less (suc id) (request_quiet j lies s f x less (suc id)) id v at live d
       (asking.asked_request l lies s.words s.views a few wide id v at x (suc id) less small alone d
       (asking.desk_stays l lies s.words s.views a few wide id v at x (suc id) less small alone id own d v.desk ours
       refl refl refl refl refl refl
@@ -121,7 +122,7 @@ module _ (j : Setup) (lies : Lies) (s : State Slots View) (f : Facts j lies s) (
       let a = f.asked in let few = f.counts.few in let wide = f.words.wide in let x : ℕ = v.desk.victim in
       let less = (ours.lead leads).0 in let small : 0 ≤ l.workers = omega arith in
       let d : Desk = (releases_now v).desk in
-      desk_step j lies s f x request less 0 id v at live d
+      desk_step j lies s f x request less 0 (request_quiet j lies s f x less 0) id v at live d
       (asking.asked_request l lies s.words s.views a few wide id v at x 0 less small (one_leads leads) d
       (asking.desk_stays l lies s.words s.views a few wide id v at x 0 less small (one_leads leads) id seat_less d v.desk ours
       refl refl refl refl refl refl (λ h. cc) (λ y g. elim g [ ]) (λ y g. elim g [ ])))
@@ -224,10 +225,11 @@ module _ (j : Setup) (lies : Lies) (s : State Slots View) (f : Facts j lies s) (
     }
 
     -- and it gives no task, before and after
-    pub onward_step : IsPost after → ((b : ℕ) → before ≢ P.Task b) → ((b : ℕ) → after ≢ P.Task b) → (d : Desk)
+    pub onward_step : IsPost after → ((b : ℕ) → before ≢ P.Task b) → ((b : ℕ) → after ≢ P.Task b) → piece_of after ≡ 0 → (d : Desk)
         → Desked l onward_words id d
         → Facts j lies record { words = onward_words; homes = s.homes; views = set s.views id (record v { desk = d }) }
-    onward_step fits_o not_task no_task d mine = desk_step j lies s f k post less (packed_post after) id v at live d
+    onward_step fits_o not_task no_task no_piece d mine = desk_step j lies s f k post less (packed_post after)
+        (post_quiet j lies s f k less after no_piece) id v at live d
         (asking.asked_post l lies s.words s.views f.asked f.counts.few f.words.wide id v at k less after whose alone fits_o
         (λ b e. not_task b (post_same before (P.Task b) (sym there_is ∙ e))) no_task d mine)
 
@@ -247,7 +249,7 @@ module _ (j : Setup) (lies : Lies) (s : State Slots View) (f : Facts j lies s) (
       (λ i u m e some_part g. held_not u.desk.victim ((f.asked.desks i u e some_part).held k g).2) in
       let other : (y : ℕ) → In y v.desk.held → y ≢ k = (λ y g d. held_not x
       (ap (λ (z : ℕ). word_at l s.words (worker_word z post)) (sym d) ∙ (ours.held y g).2)) in
-      onward_step k less (P.Posted x) (P.Held x) there_is refl refl alone (few_fit (P.Held x) (ours.lead leads).0) (λ b e. cc) (λ b e. cc)
+      onward_step k less (P.Posted x) (P.Held x) there_is refl refl alone (few_fit (P.Held x) (ours.lead leads).0) (λ b e. cc) (λ b e. cc) refl
       (holds_one v k n).desk
       (onward_desk k less (P.Posted x) (P.Held x) there_is refl refl alone (v.desk.held ++ k ∷ []) (holds_one v k n).desk.found v.desk.wrote
       (λ y g. ⊎_elim
@@ -283,14 +285,14 @@ module _ (j : Setup) (lies : Lies) (s : State Slots View) (f : Facts j lies s) (
           (r.0, without_in k v.desk.held e.thief (ours.wrote e r.0).0 r.1))
 
       -- with no task
-      pub answers_it : IsPost o → ((b : ℕ) → o ≢ P.Task b)
+      pub answers_it : IsPost o → ((b : ℕ) → o ≢ P.Task b) → piece_of o ≡ 0
           → Facts j lies record {
             words = set s.words (place l (worker_word k post)) (packed_post o);
             homes = s.homes;
             views = set s.views id (answers_one v k);
           }
-      answers_it fits_o no_task = onward_step k thief_less (P.Held v.desk.victim) o held_there refl (answer_onward o answers) alone_holds
-          fits_o (λ b e. cc) no_task (answers_one v k).desk desk_after
+      answers_it fits_o no_task no_piece = onward_step k thief_less (P.Held v.desk.victim) o held_there refl (answer_onward o answers) alone_holds
+          fits_o (λ b e. cc) no_task no_piece (answers_one v k).desk desk_after
 
     -- A PIECE is written in its answer word
     module _ (y : ℕ) where
@@ -345,7 +347,7 @@ module _ (j : Setup) (lies : Lies) (s : State Slots View) (f : Facts j lies s) (
 
       pub writes_it : Facts j lies record { words = ws4; homes = s.homes; views = set s.views id (writes_one v k y) }
       writes_it = let a = f.asked in let d : Desk = (writes_one v k y).desk in
-          desk_step j lies s f k answer thief_less y id v at live d (record {
+          desk_step j lies s f k answer thief_less y (answer_quiet j lies s f k thief_less y) id v at live d (record {
             posts = λ i low. let o = a.posts i low in (o.0, o.1, post_still i low ∙ o.2);
             leads = λ i low. let o = a.leads i low in let e = request_still i low in omega arith;
             tasks = λ i b low e. a.tasks i b low (sym (post_still i low) ∙ e);
@@ -465,7 +467,7 @@ module _ (j : Setup) (lies : Lies) (s : State Slots View) (f : Facts j lies s) (
       posts_task : Facts j (put lies p (some u)) record { words = ws3; homes = s.homes; views = set s.views id w3 }
       posts_task = handed j lies s f id v at live k thief_less (packed_post o3) p t is (Posted k) (ap is_begun stage_is) refl
           (ap phase_of stage_is) refl (ap is_claimed stage_is) (ap stand_of stage_is)
-          (kept_promises p v.tasks.promised) v.tasks.given (answers_one v k).desk asked3
+          (kept_promises p v.tasks.promised) v.tasks.given (answers_one v k).desk (post_quiet j lies s f k thief_less o3 refl) asked3
           (sums.stays given_in is_given lies v w3 p t u is (ap is_given stage_is) (λ q. refl))
           (λ y i. given_else j lies p u y ((f.fits id v at).given y i)
           (not_among spot_path v.tasks.given p (given_none id v at) y i))

@@ -299,7 +299,7 @@ module _ (opening : List ℕ) (slots id : ℕ) (me : Me Slots View) (j : Setup) 
         keeps,
         tt,
         holds_at opening j lies s id (place_of k post) i (packed_post P.Failed) new w w (sym i_is) (sym new_is) refl
-            (leader.answers_it j lies s f id v at live k k_in P.Failed refl (record { number_fits = omega arith }) (λ b e. cc)),
+            (leader.answers_it j lies s f id v at live k k_in P.Failed refl (record { number_fits = omega arith }) (λ b e. cc) refl),
         (
           any_setup (λ z. (y : ℕ) → IsOf z y post i → w ≡ answers_one v y)
               (λ y of. ap (answers_one v) (one_worker k y post i less i_is of)),

@@ -37,6 +37,7 @@ use Rattle.kt_posts.specs.Desks.{is_answer, posts, sees, gets_piece, freed, take
 use Rattle.kt_posts.proofs.PostWords.{post_same, idle_zero, not_idle_pos, idle_not, answer_is, posted_one, task_one}
 use Rattle.kt_posts.proofs.Desking.{desk_step, desk_learned}
 use Rattle.kt_posts.proofs.Asking.{post_here, post_else, post_there, request_else, answer_else, posts_now, leads_now, desks_now, unasked_now, asked_post}
+use Rattle.kt_posts.proofs.PieceWords.{piece_of, post_quiet}
 use Rattle.kt_posts.proofs.Handing.{same_task, handed}
 
 module _ (j : Setup) (lies : Lies) (s : State Slots View) (f : Facts j lies s) (id : ℕ) (v : View) (at : get_elem? s.views id ≡ some v)
@@ -98,9 +99,10 @@ module _ (j : Setup) (lies : Lies) (s : State Slots View) (f : Facts j lies s) (
     }
 
     -- and it gives no task, before and after
-    pub own_changes : IsPost o → ((b : ℕ) → own_post ≢ packed_post (P.Task b)) → ((b : ℕ) → o ≢ P.Task b) → (d : Desk)
+    pub own_changes : IsPost o → ((b : ℕ) → own_post ≢ packed_post (P.Task b)) → ((b : ℕ) → o ≢ P.Task b) → piece_of o ≡ 0 → (d : Desk)
         → Desked l ws' id d → Facts j lies record { words = ws'; homes = s.homes; views = set s.views id (record v { desk = d }) }
-    own_changes fits_o not_task no_task d mine = desk_step j lies s f id post seat_less (packed_post o) id v at live d
+    own_changes fits_o not_task no_task no_piece d mine = desk_step j lies s f id post seat_less (packed_post o)
+        (post_quiet j lies s f id seat_less o no_piece) id v at live d
         (asked_post l lies s.words s.views f.asked f.counts.few f.words.wide id v at id seat_less o (inl refl) alone fits_o not_task
         no_task d mine)
 
@@ -114,7 +116,7 @@ module _ (j : Setup) (lies : Lies) (s : State Slots View) (f : Facts j lies s) (
   posts_it victim free fits_o =
       let zero_there = own_desk.free free in
       let not_held : (y : ℕ) → own_post ≢ packed_post (P.Held y) = (λ y e. idle_not (P.Held y) (sym zero_there ∙ e) refl) in
-      own_changes (P.Posted victim) not_held fits_o (λ b e. idle_not (P.Task b) (sym zero_there ∙ e) refl) (λ b e. cc)
+      own_changes (P.Posted victim) not_held fits_o (λ b e. idle_not (P.Task b) (sym zero_there ∙ e) refl) (λ b e. cc) refl
       (posts v victim).desk
       (own_desk_then (P.Posted victim) not_held false victim v.desk.word (λ e. cc) (λ e. not_idle_pos (P.Posted victim) refl)
       (λ y e p. sym (posted_one victim y p)))
@@ -129,7 +131,7 @@ module _ (j : Setup) (lies : Lies) (s : State Slots View) (f : Facts j lies s) (
   frees_it o word_is not_held no_task word =
       let held_not : (y : ℕ) → own_post ≢ packed_post (P.Held y) = (λ y e. not_held y (post_same o (P.Held y) (sym word_is ∙ e))) in
       own_changes P.Idle held_not (record { number_fits = omega arith }) (λ b e. no_task b (post_same o (P.Task b) (sym word_is ∙ e)))
-      (λ b e. cc) (record v.desk { free = true; saw = false; word = word; got = false })
+      (λ b e. cc) refl (record v.desk { free = true; saw = false; word = word; got = false })
       (own_desk_then P.Idle held_not true v.desk.asked word (λ e. idle_zero) (λ e. cc) (λ y e. cc))
 
   -- the post is seen
@@ -259,7 +261,7 @@ module _ (j : Setup) (lies : Lies) (s : State Slots View) (f : Facts j lies s) (
     pub takes_it : Facts j (put lies p (some u)) record { words = idle_words; homes = s.homes; views = set s.views id w }
     takes_it = handed j lies s f id v at live id seat_less (packed_post P.Idle) p t is (Given id) (ap is_begun stage_is) refl
         (ap phase_of stage_is) refl (ap is_claimed stage_is)
-        (ap stand_of stage_is) v.tasks.promised (taken ∷ v.tasks.given) w.desk asked_now
+        (ap stand_of stage_is) v.tasks.promised (taken ∷ v.tasks.given) w.desk (post_quiet j lies s f id seat_less P.Idle refl) asked_now
         (adds given_in is_given lies v w p t u is (ap is_given stage_is) refl
         (λ q. let c : given_in w q ≡ given_in v q + one_if (same_path q p) = omega arith in c))
         (λ m i. ⊎_elim (λ (h : m ≡ taken). subst (IsGiven (put lies p (some u))) (sym h)

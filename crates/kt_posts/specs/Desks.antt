@@ -1,10 +1,11 @@
 -- What a seat knows after a step on a request, a post or an answer word.
-use Rattle.std.specs.Prelude.{ℕ, Bool, true, false, cond, nat_eq, List, [], ◌∷◌, ◌++◌}
+use Rattle.std.specs.Prelude.{ℕ, Bool, true, false, cond, nat_eq, ◌&&◌, List, [], ◌∷◌, ◌++◌}
 use Rattle.kt_words.specs.declared.posts.Post.{Post}
 use Rattle.kt_words.specs.declared.posts.Post.TheVariants as P
 use Rattle.kt_rule.specs.declared.views.Spot.{Spot}
 use Rattle.kt_rule.specs.declared.views.Promise.{Promise}
 use Rattle.kt_rule.specs.declared.views.Wrote.{Wrote}
+use Rattle.kt_rule.specs.declared.views.Share.{Share}
 use Rattle.kt_rule.specs.declared.views.View.{View}
 
 -- whether a post is an answer, which its worker may take
@@ -92,6 +93,17 @@ other_promises at (m ∷ ms) = cond (nat_eq at m.spot.berth.at) (other_promises 
 -- it is answered with the task of this record, which is not promised any longer
 abbrev pub gives_one : View → ℕ → ℕ → View
 gives_one v thief at = record (answers_one v thief) { tasks = record v.tasks { promised = other_promises at v.tasks.promised } }
+
+-- the pieces but those of this record that begin at this position
+abbrev pub other_pieces : ℕ → ℕ → List Share → List Share
+other_pieces at low [] = []
+other_pieces at low (x ∷ xs) = cond (nat_eq at x.spot.berth.at && nat_eq low x.low) (other_pieces at low xs) (x ∷ other_pieces at low xs)
+
+-- it is answered with this piece, which is not in hand any longer
+abbrev pub gives_piece : View → ℕ → Share → View
+gives_piece v thief x = record (answers_one v thief) {
+  loops = record v.loops { pieces = other_pieces x.spot.berth.at x.low v.loops.pieces };
+}
 
 -- the lead is given up
 abbrev pub releases_now : View → View

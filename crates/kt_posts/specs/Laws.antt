@@ -3,19 +3,20 @@
 use Rattle.std.specs.Prelude.{◌≡◌, ℕ, suc, ◌<◌, true, false, [], set}
 use Rattle.atomic_table.specs.Table.{State}
 use Rattle.kt_words.specs.Places.{place, worker_word, request, post, answer}
-use Rattle.kt_words.specs.Words.{packed_post, IsPost}
+use Rattle.kt_words.specs.Words.{packed_pair, packed_post, IsPost}
 use Rattle.kt_words.specs.declared.posts.Post.{Post}
 use Rattle.kt_words.specs.declared.posts.Post.TheVariants as P
 use Rattle.kt_rule.specs.declared.views.Setup.{Setup}
 use Rattle.kt_rule.specs.declared.views.Promise.{Promise}
 use Rattle.kt_rule.specs.declared.views.Wrote.{Wrote}
+use Rattle.kt_rule.specs.declared.views.Share.{Share}
 use Rattle.kt_rule.specs.declared.views.View.{View}
 use Rattle.kt_rule.specs.Lists.{In}
 use Rattle.kt_rule.specs.Records.{layout_of, word_at}
 use Rattle.kt_rule.specs.Rule.{Slots, IsRuled}
 use Rattle.kt_steps.specs.CoreMoves.{Stays}
 use Rattle.kt_steps.specs.Laws.{IsSeat, Enters, after_step}
-use Rattle.kt_posts.specs.Desks.{is_answer, posts, sees, gets_piece, freed, finds_busy, leads_now, looks_at, holds_one, writes_one, answers_one, gives_one, releases_now}
+use Rattle.kt_posts.specs.Desks.{is_answer, posts, sees, gets_piece, freed, finds_busy, leads_now, looks_at, holds_one, writes_one, answers_one, gives_one, gives_piece, releases_now}
 use Rattle.kt_posts.specs.Told.{Took}
 
 -- the post of worker k becomes o, or its request word n, and the seat's view w
@@ -89,11 +90,11 @@ WriteStays = (j : Setup) (s : State Slots View) → IsRuled j s → (id : ℕ) (
     → In thief v.desk.held
     → Enters j Stays s (after_step s (place (layout_of j) (worker_word thief answer)) word id (writes_one v thief word))
 
--- and the answer that it is there: a store
+-- and the answer that it is there, a piece which the seat has in hand: a store
 abbrev pub PieceStays : Type 0
-PieceStays = (j : Setup) (s : State Slots View) → IsRuled j s → (id : ℕ) (v : View) → IsSeat s id v → (e : Wrote) (at : ℕ)
-    → In e v.desk.wrote → IsPost (P.Piece at)
-    → Enters j Stays s (after_post j s e.thief (P.Piece at) id (answers_one v e.thief))
+PieceStays = (j : Setup) (s : State Slots View) → IsRuled j s → (id : ℕ) (v : View) → IsSeat s id v → (e : Wrote) (x : Share)
+    → In e v.desk.wrote → In x v.loops.pieces → e.piece ≡ packed_pair (record { low = x.low; high = x.high }) → IsPost (P.Piece x.spot.berth.at)
+    → Enters j Stays s (after_post j s e.thief (P.Piece x.spot.berth.at) id (gives_piece v e.thief x))
 
 -- the exchange that takes the answer which was seen: it finds this very answer, and what it gives is the seat's
 abbrev pub TakeStays : Type 0

@@ -25,13 +25,16 @@ use Rattle.kt_rule.specs.declared.views.View.{View}
 use Rattle.kt_rule.specs.Paths.{put}
 use Rattle.kt_rule.specs.Lists.{times, In}
 use Rattle.kt_rule.specs.Lies.{Posted, Lie, Lies, Cored, phase_of, is_gone}
-use Rattle.kt_rule.specs.Records.{layout_of, word_at, elements, drawn_at, stop_at, own_record}
+use Rattle.kt_rule.specs.Records.{layout_of, word_at, elements, drawn_at, positions_at, stop_at, own_record}
 use Rattle.kt_rule.specs.Views.{spot_path, path_of, promise_path, mine_in, claimed_in, promised_in, given_in, begun_in, drawn_in, main_berth}
 use Rattle.kt_rule.specs.Facts.{is_there, is_claimed, is_promised, is_given, is_begun, tally, Words, IsSo, IsUnderWay, IsOver, IsPublished, IsKnownFinished, IsGiven, Owns, Fits, waiting, Drawn, Stopped}
 use Rattle.kt_rule.specs.Requests.{IsPromised, Desked, Asked}
+use Rattle.kt_rule.specs.LoopWords.{loop_words, hands_of}
+use Rattle.kt_rule.specs.LoopFacts.{Looped}
 use Rattle.kt_rule.specs.Rule.{Slots, Facts}
 use Rattle.kt_rule.proofs.Puts.{put_here, put_else, put_cases, at_put}
 use Rattle.kt_rule.proofs.Sums.{weigh_set, tally_step, among}
+use Rattle.kt_rule.proofs.LoopsStay.{SameLoop, LoopsStay, loops_stay, put_stay, looped_keeps}
 use Rattle.kt_rule.proofs.Words.{same_at, same_frame, Keeps, nothing_changes, berth_keeps, known_keeps, note_keeps, Quiet, Turn, turn_back, turn_kept, turn_zeros, turn_low, turn_keeps, turn_words}
 
 pub at_below : {A : Type 0} (xs : List A) (i : ℕ) (x : A) → get_elem? xs i ≡ some x → i < length xs
@@ -156,6 +159,7 @@ pub record Owed (j : Setup) (lies : Lies) (s : State Slots View) (id : ℕ) (v :
   pub asked : Asked (layout_of j) lies' ws' (set s.views id w)
   pub drawn : Drawn j lies' ws' (set s.views id w)
   pub stopped : Stopped (layout_of j) ws'
+  pub looped : Looped j.workers lies' (loop_words (layout_of j) ws') (hands_of (set s.views id w))
   -- what the seat knows, and what the others know
   pub fits : Fits j lies' ws' id w
   pub others : (k : ℕ) (x : View) → k ≢ id → get_elem? s.views k ≡ some x → Fits j lies' ws' k x
@@ -189,6 +193,7 @@ assemble j lies lies' s ws' id v w f at live o = record {
   asked = o.asked;
   drawn = o.drawn;
   stopped = o.stopped;
+  looped = o.looped;
   fits = each_view (Fits j lies' ws') s.views id w o.fits o.others;
   unmade = λ a from less. let n = length-set s.views id w in o.unmade a (omega arith) less (f.unmade a (omega arith) less);
 }
@@ -262,6 +267,7 @@ with_tasks v tasks known = record v { tasks = tasks; seen = record v.seen { know
 pub record Turned (j : Setup) (lies : Lies) (s : State Slots View) (p : Path) (t u : Lie) (ws' : List ℕ) (id : ℕ) (v : View)
     (tasks : Tasks) (known : List Path) : Type 0 where
   pub turn : Turn (layout_of j) lies s.words p t u ws'
+  pub loop : SameLoop t u
   pub core : Cored j (put lies p (some u)) (elements (layout_of j) ws')
   pub unposted : (k : ℕ) → t.stage ≢ Posted k
   pub unposted_now : (k : ℕ) → u.stage ≢ Posted k
@@ -337,6 +343,8 @@ turned j lies s p t u ws' id v tasks known f at live o =
             | inr h ↦ (let b : waiting j q (lies' q) ≡ waiting j q (lies q) = ap (waiting j q) h.1 in omega arith)
           ]);
       stopped = stopped_quiet l s.words ws' o.turn.quiet f.stopped;
+      looped = looped_keeps l lies lies' s.words ws' s.views id v w f.looped (put_stay lies p t u o.turn.is o.loop) at refl
+          (o.turn.quiet positions_at tt tt) (quiet_own l s.words ws' o.turn.quiet);
       fits = record {
         setup = fit.setup;
         own = fit.own;
@@ -387,6 +395,7 @@ learned j lies s f id v at live seen known notes stop line = let w : View = reco
           (same_posted lies) (λ q. refl) (f.asked.promises id v at) (λ k x n e. f.asked.promises k x e);
       drawn = drawn_keeps j lies lies s.words s.words s.views id v w f.drawn at refl refl refl (λ p h. h) refl (λ p. omega arith);
       stopped = f.stopped;
+      looped = looped_keeps (layout_of j) lies lies s.words s.words s.views id v w f.looped (loops_stay lies) at refl refl (λ k o less. refl);
       fits = record {
         setup = fit.setup;
         own = fit.own;

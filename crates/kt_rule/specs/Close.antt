@@ -16,8 +16,8 @@ use Rattle.kt_rule.specs.declared.views.Setup.{Setup}
 use Rattle.kt_rule.specs.declared.views.Execution.{Execution}
 use Rattle.kt_rule.specs.declared.views.View.{View}
 use Rattle.kt_rule.specs.Lists.{times, In}
-use Rattle.kt_rule.specs.Records.{layout_of, word_at, elements, drawn_at, stop_at, state_of, head_of}
-use Rattle.kt_rule.specs.Views.{claimed_in, begun_in, main_berth, main_spot, empty_region, no_tasks, nothing_seen, no_draws, quiet_desk}
+use Rattle.kt_rule.specs.Records.{layout_of, word_at, elements, drawn_at, positions_at, stop_at, state_of, head_of}
+use Rattle.kt_rule.specs.Views.{claimed_in, begun_in, main_berth, main_spot, empty_region, no_tasks, nothing_seen, no_draws, quiet_desk, no_loops}
 use Rattle.kt_rule.specs.Facts.{IsHeadAt, IsAccessAt, task_in}
 use Rattle.kt_rule.specs.Rule.{Slots}
 use Rattle.kt_rule.specs.Steps.{new_lie}
@@ -27,6 +27,7 @@ pub record IsOpening (j : Setup) (ws : List ℕ) : Type 0 where
   pub wide : total_of (layout_of j) ≤ length ws
   pub input : elements (layout_of j) ws ≡ opened_with j.program.families j.input
   pub drawn : word_at (layout_of j) ws drawn_at ≡ 1
+  pub positions : word_at (layout_of j) ws positions_at ≡ 0
   pub stop : word_at (layout_of j) ws stop_at ≡ 0
   pub state : word_at (layout_of j) ws (record_word 0 0) ≡ packed_state (state_of (new_lie main_berth))
   pub head : word_at (layout_of j) ws (record_word 0 1) ≡ packed_head (head_of (new_lie main_berth))
@@ -51,6 +52,7 @@ first_view j = record {
   seen = nothing_seen;
   draws = no_draws;
   desk = quiet_desk;
+  loops = no_loops;
 }
 
 abbrev pub Opens : Setup → Step Slots → View → ℕ → View → Type 0
@@ -71,6 +73,7 @@ newcomer v = record {
   seen = nothing_seen;
   draws = no_draws;
   desk = quiet_desk;
+  loops = no_loops;
 }
 
 -- one seat takes in all lists of another; what that one had under way is left where it stopped
@@ -87,6 +90,13 @@ together v w = record v {
   };
   seen = record v.seen { known = v.seen.known ++ w.seen.known; stop = v.seen.stop || w.seen.stop };
   draws = record { hands = v.draws.hands ++ w.draws.hands; over = v.draws.over + w.draws.over };
+  loops = record v.loops {
+    pending = v.loops.pending ++ w.loops.pending;
+    pieces = v.loops.pieces ++ w.loops.pieces;
+    taken = v.loops.taken ++ w.loops.taken;
+    retired = v.loops.retired ++ w.loops.retired;
+    over = v.loops.over + w.loops.over;
+  };
 }
 
 abbrev pub the_run : (j : Setup) → Run (machine_of j.program)

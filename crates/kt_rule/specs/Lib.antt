@@ -6,6 +6,8 @@ pub mod Records
 pub mod Views
 pub mod Facts
 pub mod Requests
+pub mod LoopWords
+pub mod LoopFacts
 pub mod Rule
 pub mod Steps
 pub mod Close

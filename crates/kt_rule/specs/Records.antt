@@ -5,7 +5,7 @@ use lib.ListN.{get_elem?}
 use Rattle.kt_law.specs.declared.accesses.Access.{Access}
 use Rattle.kt_prog.specs.Calls.{CallTree}
 use Rattle.kt_prog.specs.Objects.{objects_of, elements_of}
-use Rattle.kt_words.specs.Places.{Place, place, first_element, shared_word, tasks_drawn, stop}
+use Rattle.kt_words.specs.Places.{Place, place, first_element, shared_word, tasks_drawn, positions_drawn, stop}
 use Rattle.kt_words.specs.Words.{packed_state, packed_head, packed_pair, packed_access}
 use Rattle.kt_words.specs.declared.layouts.TheConstants.{RECORDS}
 use Rattle.kt_words.specs.declared.layouts.Layout.{Layout}
@@ -27,6 +27,9 @@ elements l ws = take l.elements (drop (first_element l) ws)
 
 abbrev pub drawn_at : Place
 drawn_at = shared_word tasks_drawn
+
+abbrev pub positions_at : Place
+positions_at = shared_word positions_drawn
 
 abbrev pub stop_at : Place
 stop_at = shared_word stop

@@ -52,6 +52,8 @@ use Rattle.kt_rule.specs.Records.{layout_of, word_at, elements}
 use Rattle.kt_rule.specs.Views.{main_berth, blank_view}
 use Rattle.kt_rule.specs.Facts.{Words, Fits, Counts, Drawn, Stopped}
 use Rattle.kt_rule.specs.Requests.{Asked}
+use Rattle.kt_rule.specs.LoopWords.{loop_words, hands_of}
+use Rattle.kt_rule.specs.LoopFacts.{Looped}
 
 -- the table's values are no use to a run
 abbrev pub Slots : Type 0
@@ -68,6 +70,7 @@ pub record Facts (j : Setup) (lies : Lies) (s : State Slots View) : Type 0 where
   pub asked : Asked (layout_of j) lies s.words s.views
   pub drawn : Drawn j lies s.words s.views
   pub stopped : Stopped (layout_of j) s.words
+  pub looped : Looped j.workers lies (loop_words (layout_of j) s.words) (hands_of s.views)
   pub fits : (seat : ℕ) (v : View) → get_elem? s.views seat ≡ some v → Fits j lies s.words seat v
   -- regions that no seat has yet are empty
   pub unmade : (a : ℕ) → RECORDS * length s.views ≤ a → a < RECORDS * j.workers → word_at (layout_of j) s.words (record_word a 0) ≡ 0

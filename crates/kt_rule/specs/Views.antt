@@ -11,6 +11,7 @@ use Rattle.kt_rule.specs.declared.views.Tasks.{Tasks}
 use Rattle.kt_rule.specs.declared.views.Seen.{Seen}
 use Rattle.kt_rule.specs.declared.views.Draws.{Draws}
 use Rattle.kt_rule.specs.declared.views.Desk.{Desk}
+use Rattle.kt_rule.specs.declared.views.LoopHands.{LoopHands}
 use Rattle.kt_rule.specs.declared.views.View.{View}
 use Rattle.kt_rule.specs.Lists.{times}
 
@@ -93,6 +94,10 @@ quiet_desk = record {
   wrote = [];
 }
 
+-- nothing of a loop in hand, and an interval that is empty
+abbrev pub no_loops : LoopHands
+no_loops = record { pending = []; pieces = []; taken = []; retired = []; free = true; home = 0; sight = None; over = 0 }
+
 -- the one seat before it is told the setup
 abbrev pub blank_view : View
 blank_view = record {
@@ -105,6 +110,7 @@ blank_view = record {
   seen = nothing_seen;
   draws = no_draws;
   desk = quiet_desk;
+  loops = no_loops;
 }
 
 -- what is left of a seat that was joined to another

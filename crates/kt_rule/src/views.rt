@@ -163,6 +163,55 @@ pub struct Desk {
     pub wrote: LinkedList<Wrote>,
 }
 
+/// Positions of a loop, from the lower up to the higher, the higher not included.
+pub struct Share {
+    /// The loop.
+    pub spot: Spot,
+    pub low: u32,
+    pub high: u32,
+}
+
+/// An index of a loop that the seat has in hand or ran, and what its body did so far.
+pub struct IndexRun {
+    /// The loop.
+    pub spot: Spot,
+    pub index: u32,
+    /// Its place in the count of all positions.
+    pub position: u32,
+    /// The numbers that its loads found, in order.
+    pub answers: LinkedList<u64>,
+    /// How many operations it has done.
+    pub done: u64,
+}
+
+/// What a split has seen of a victim.
+pub struct Sight {
+    pub victim: u32,
+    /// The interval that it found.
+    pub low: u32,
+    pub high: u32,
+    /// The home word that it found afterwards.
+    pub home: Option<u32>,
+}
+
+/// What the seat has in hand of loops.
+pub struct LoopHands {
+    /// Positions that it drew for the loop which it runs, as long as that one has not begun.
+    pub pending: LinkedList<Share>,
+    /// Pieces that are in no word.
+    pub pieces: LinkedList<Share>,
+    /// The indexes that it took and has not retired, and those that it retired.
+    pub taken: LinkedList<IndexRun>,
+    pub retired: LinkedList<IndexRun>,
+    /// Whether it knows that its own interval is empty, and its own home word.
+    pub free: bool,
+    pub home: u32,
+    /// The victim that it is about to split.
+    pub sight: Option<Sight>,
+    /// How often a draw of positions was over the limit.
+    pub over: u32,
+}
+
 /// What a seat knows.
 pub struct View {
     /// None before the first step of all.
@@ -176,4 +225,5 @@ pub struct View {
     pub seen: Seen,
     pub draws: Draws,
     pub desk: Desk,
+    pub loops: LoopHands,
 }

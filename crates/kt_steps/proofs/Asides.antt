@@ -16,13 +16,14 @@ use Rattle.kt_rule.specs.declared.views.Draws.{Draws}
 use Rattle.kt_rule.specs.declared.views.View.{View}
 use Rattle.kt_rule.specs.Lists.{In, here, there}
 use Rattle.kt_rule.specs.Lies.{Lie, Lies, Cored, is_gone}
-use Rattle.kt_rule.specs.Records.{layout_of, word_at, elements, drawn_at, stop_at, own_record, field_of, task_field, frame_floor}
+use Rattle.kt_rule.specs.Records.{layout_of, word_at, elements, drawn_at, positions_at, stop_at, own_record, field_of, task_field, frame_floor}
 use Rattle.kt_rule.specs.Facts.{IsHeadAt, IsAccessAt, IsLeft, Words, Owns, Fits, Drawn, Stopped}
 use Rattle.kt_rule.specs.Rule.{Slots, Facts, Holds}
 use Rattle.kt_rule.specs.Steps.{Tells, next_of, builds, Builds, MaySet, knows_stop, LoadsStop, StoresStop}
 use Rattle.kt_rule.proofs.Shelf as shelf
 use Rattle.kt_rule.proofs.Shelf.{IsNoElement, elements_else}
 use Rattle.kt_rule.proofs.Words.{same_lie, Keeps, note_keeps, IsPlain}
+use Rattle.kt_rule.proofs.LoopsStay.{loops_stay, looped_keeps}
 use Rattle.kt_rule.proofs.Moves.{at_below, drawn_keeps, same_posted, OwnStay, asked_keeps, assemble, learned}
 use Rattle.kt_steps.proofs.Steps.{set_word, inside, holds_so}
 
@@ -125,7 +126,7 @@ module _ (j : Setup) (lies : Lies) (s : State Slots View) (f : Facts j lies s) w
     }
 
     -- a live seat steps on a word that is no worker's, and only what it drew and whether it knows the stop word may change
-    pub aside : ((k : ℕ) (o : Own) → worker_word k o ≢ q) → (word_at l s.words stop_at ≡ 1 → word_at l ws' stop_at ≡ 1)
+    pub aside : ((k : ℕ) (o : Own) → worker_word k o ≢ q) → positions_at ≢ q → (word_at l s.words stop_at ≡ 1 → word_at l ws' stop_at ≡ 1)
         → (id : ℕ) (v : View) → get_elem? s.views id ≡ some v → 0 < v.parts → (stop : Bool) (draws : Draws)
         → Drawn j lies ws' (set s.views id (record v { seen = record v.seen { stop = stop }; draws = draws })) → Stopped l ws'
         → (stop ≡ true → word_at l ws' stop_at ≡ 1)
@@ -135,7 +136,7 @@ module _ (j : Setup) (lies : Lies) (s : State Slots View) (f : Facts j lies s) w
           views = set s.views id
               (record v { seen = record v.seen { stop = stop }; draws = draws });
         }
-    aside not_own stays id v at live stop draws drawn stopped knows =
+    aside not_own not_positions stays id v at live stop draws drawn stopped knows =
         let w : View = record v { seen = record v.seen { stop = stop }; draws = draws } in
         let own : OwnStay l s.words ws' = (λ k o less. shelf.else l s.words q (worker_word k o) n in_q less (not_own k o)) in
         let fit = plain_fits stays id v (seat_in id v at) (f.fits id v at) in
@@ -154,6 +155,8 @@ module _ (j : Setup) (lies : Lies) (s : State Slots View) (f : Facts j lies s) w
               (f.asked.promises id v at) (λ k x ne e. f.asked.promises k x e);
           drawn = drawn;
           stopped = stopped;
+          looped = looped_keeps l lies lies s.words ws' s.views id v w f.looped (loops_stay lies) at refl
+              (shelf.else l s.words q positions_at n in_q tt not_positions) own;
           fits = record {
             setup = fit.setup;
             own = fit.own;
@@ -256,7 +259,7 @@ stores_stop opening slots id me j i setup live over i_is s h _ at _ = (
     crossed = let a = f.drawn.crossed id v at over in let b = drawn_stays in omega arith
 
     done : Facts j lies record { words = ws1; homes = s.homes; views = set s.views id (knows_stop v) }
-    done = aside j lies s f stop_at tt tt 1 (λ k o e. cc) (λ _. now) id v at live true v.draws
+    done = aside j lies s f stop_at tt tt 1 (λ k o e. cc) (λ e. cc) (λ _. now) id v at live true v.draws
         (drawn_keeps j lies lies s.words ws1 s.views id v (knows_stop v) f.drawn at refl refl refl (λ p h. h) drawn_stays
         (λ p. omega arith))
         (record { word = inr (now, crossed) }) (λ _. now)
@@ -449,6 +452,8 @@ builds_one opening slots id me j g n i setup live room pos big may new i_is s h 
               (stop_stays ∙ o.0, (let a = drawn_stays in let b = o.1 in omega arith))
         ];
       };
+      looped = looped_keeps l1 lies lies s.words ws1 s.views id v (builds v g n) f.looped (loops_stay lies) at refl
+          (shelf.else l1 s.words (record_word a0 g) positions_at n in_q tt (λ e. cc)) own_stay;
       fits = moved id v (record { field = g; word = n } ∷ v.region.built) few (f.fits id v at) (λ _ _. built_own);
       others = λ k x ne e. moved k x x.region.built (seat_in j lies s f k x e) (f.fits k x e)
           (built_other k x ne (seat_in j lies s f k x e) (f.fits k x e));

@@ -403,7 +403,7 @@ draws opening slots id me j e rest c code i setup live runs next call call_is no
 
     done : (o : ℕ) → o ≤ 1 → n + 1 ≤ TASKS + weigh (λ (x : View). x.draws.over) s.views + o → (0 < o → TASKS < n + 1)
         → Facts j lies record { words = ws'; homes = s.homes; views = set s.views id (draws_one v e o) }
-    done o most bound cross = aside j lies s f drawn_at tt tt (n + 1) (λ k o e. cc) (λ d. stop_stays ∙ d) id v at live v.seen.stop
+    done o most bound cross = aside j lies s f drawn_at tt tt (n + 1) (λ k o e. cc) (λ e. cc) (λ d. stop_stays ∙ d) id v at live v.seen.stop
         (draws_one v e o).draws (drawn o most bound cross)
         (record {
           word = elim f.stopped.word [

@@ -36,7 +36,7 @@ use Rattle.kt_rule.specs.Paths.{put}
 use Rattle.kt_rule.specs.Lists.{times, one_if, In, here, there}
 use Rattle.kt_rule.specs.Weights.{next_weight, is_task, one_if_whole}
 use Rattle.kt_rule.specs.Lies.{Stage, Waits, Runs, Lie, Lies, phase_of, is_gone, task_of, get_of, core_of, counts_of, forks_of, Cored}
-use Rattle.kt_rule.specs.Records.{layout_of, word_at, elements, drawn_at, stop_at, own_record, state_of, field_of, task_field, frame_floor}
+use Rattle.kt_rule.specs.Records.{layout_of, word_at, elements, drawn_at, positions_at, stop_at, own_record, state_of, field_of, task_field, frame_floor}
 use Rattle.kt_rule.specs.Views.{path_of, promise_path, mine_in, given_in, begun_in, drawn_in, frames, roots, children}
 use Rattle.kt_rule.specs.Facts.{is_there, is_claimed, is_promised, is_given, is_begun, tally, Sound, IsHeadAt, IsAccessAt, IsLeft, Words, task_in, Agrees, IsUnderWay, IsOver, IsPublished, IsGiven, IsOwn, Owns, Fits, waiting, Drawn}
 use Rattle.kt_rule.specs.Requests.{IsPromised}
@@ -49,6 +49,8 @@ use Rattle.kt_rule.proofs.Sums.{weigh_set, in_cons, among, not_among, one_self, 
 use Rattle.kt_rule.proofs.Cores as cores
 use Rattle.kt_rule.proofs.Cores.{child_one, not_child}
 use Rattle.kt_rule.proofs.Words.{Same, same_lie, same_at, same_frame, Keeps, note_keeps, berth_keeps, known_keeps, IsPlain, Quiet, above_floor, below_next}
+use Rattle.kt_rule.specs.LoopFacts.{is_early}
+use Rattle.kt_rule.proofs.LoopsStay.{SameLoop, same_loop, IsNewTask, LoopsStay, looped_keeps}
 use Rattle.kt_rule.proofs.Moves.{at_below, each_view, SamePosted, quiet_own, asked_keeps, stopped_quiet, fits_keep, positive_not, assemble}
 use Rattle.kt_steps.proofs.Asides.{seat_in, main_lives}
 use Rattle.kt_steps.proofs.Steps.{inside, holds_so, child_less, runs_unposted, waits_unposted, head_is, head_agrees, head_runs, head_task, head_live, head_sound, head_running, head_begun, head_alone, once_begun, was_begun, rest_keeps, halted_keeps, ran_keeps, promises_keep, given_keeps}
@@ -203,6 +205,9 @@ module _ (j : Setup) (lies : Lies) (s : State Slots View) (f : Facts j lies s) (
   same_t : Same t t2
   same_t = record { berth = refl; gone = λ d. d; ends = λ d. d }
 
+  loop_t : SameLoop t t2
+  loop_t = record { berth = refl; first = refl; unretired = refl; indexes = refl; pieces = refl; gone = refl; early = λ d. d }
+
   fields_t : (g : ℕ) → field_of t2 g ≡ field_of t g
   fields_t g = ap (cond (is_gone t.stage) none) (go g)
     where
@@ -220,13 +225,14 @@ module _ (j : Setup) (lies : Lies) (s : State Slots View) (f : Facts j lies s) (
     pub is : lies o ≡ some z
     pub same : Same z y
     pub stage : y.stage ≡ z.stage
+    pub loop : SameLoop z y
     pub fields : (g : ℕ) → field_of y g ≡ field_of z g
 
   old_there : (o : Path) (y : Lie) → lies o ≡ some y → Old o y
-  old_there o y d = record { z = y; is = d; same = same_lie y y refl; stage = refl; fields = λ g. refl }
+  old_there o y d = record { z = y; is = d; same = same_lie y y refl; stage = refl; loop = same_loop y y refl; fields = λ g. refl }
 
   old_parent : (o : Path) → p ≡ o → Old o t2
-  old_parent o d = record { z = t; is = ap lies (sym d) ∙ is; same = same_t; stage = refl; fields = fields_t }
+  old_parent o d = record { z = t; is = ap lies (sym d) ∙ is; same = same_t; stage = refl; loop = loop_t; fields = fields_t }
 
   -- an entry is the child's, or one of before
   at2 : (o : Path) (y : Lie) → lies2 o ≡ some y → ((q ≡ o) × (x ≡ y)) ⊎ Old o y
@@ -644,6 +650,30 @@ module _ (j : Setup) (lies : Lies) (s : State Slots View) (f : Facts j lies s) (
       ] in omega arith)
       (put_cases lies1 q (some x) o)
 
+  new_task : IsNewTask lies q x
+  new_task = record {
+    none_there = no_child;
+    no_indexes = refl;
+    no_pieces = refl;
+    unretired = refl;
+    free = λ o z d lives same_at. let h = owns.under o z (length v.region.spots) d lives room (same_at ∙ at_is) in
+        (let a = at_below v.region.spots (length v.region.spots) h.0 h.1 in omega arith);
+    below = λ o i z child_is d. ((f.looped.booked o z d).early (ap (λ (y : Lie). is_early y.stage)
+        (some-injective z t (sym d ∙ (ap lies (sym (child_one p o n i child_is).0) ∙ is))) ∙ ap is_early stage_runs.1)).0;
+  }
+
+  loops2 : LoopsStay lies lies2
+  loops2 = record {
+    forth = λ o z d. elim (put_cases lies p (some t2) o) [
+      | inl h ↦ (t2, still2 o t2 h.1, subst (λ (y : Lie). SameLoop y t2) (some-injective t z (sym is ∙ (ap lies h.0 ∙ d))) loop_t)
+      | inr h ↦ (z, still2 o z (h.1 ∙ d), same_loop z z refl)
+    ];
+    back = λ o y d. elim (at2 o y d) [
+      | inl h ↦ inr (subst (λ (k : Path × Lie). IsNewTask lies k.0 k.1) (λ i. (h.0 i, h.1 i)) new_task)
+      | inr h ↦ inl (h.z, h.is, h.loop)
+    ];
+  }
+
   nowhere : (o : Path) → In o [] → ⊥
   nowhere o i = elim i [ ]
 
@@ -706,6 +736,8 @@ module _ (j : Setup) (lies : Lies) (s : State Slots View) (f : Facts j lies s) (
         (h.0, stay2 o.spot.path h.0 h.1 (not_among promise_path u.tasks.promised p a.2 o i), h.2, h.3));
     drawn = drawn2;
     stopped = stopped_quiet l s.words ws' quiet2 f.stopped;
+    looped = looped_keeps l lies lies2 s.words ws' s.views id v w f.looped loops2 at refl (quiet2 positions_at tt tt)
+        (quiet_own l s.words ws' quiet2);
     fits = fits_own;
     others = fits_other;
     unmade = λ a from less z. stays a 0 less (omega arith) (inl (λ d. let g = at_is in

@@ -6,6 +6,7 @@ pub mod Claiming
 pub mod Looks
 pub mod Fresh
 pub mod Drawing
+pub mod LoopSeats
 pub mod Seats
 pub mod Showing
 pub mod Closing

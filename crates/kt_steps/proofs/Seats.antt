@@ -2,15 +2,17 @@
 use Rattle.std.proofs.Common.{◌≡◌, ◌≢◌, ℕ, zero, suc, ◌+◌, ◌-◌, ◌*◌, ◌<◌, ◌≤◌, ◌⊎◌, ◌||◌, Bool, true, false, cond, nat_lt, List, [], ◌∷◌, ◌++◌, set, map, length, sym, refl, ap, ◌∙◌, subst, inl, inr, arith, ⊎_elim, length-set, Some, None}
 use Rattle.std.proofs.lemmas.List.{map-append, length-append}
 use mathlib.Core.Option as o
+use mathlib.Core.Path.{fun_ext}
+use Rattle.std.proofs.lemmas.Bool.Decides.{nat_tests}
 use mathlib.Core.Option.{none, some, some-injective, some-ne-none}
 use native.Mathlib.Decide.{ℕ_discrete}
 use lib.ListN.{get_elem?}
 use Rattle.atomic_table.specs.Table.{State, Me, keeps, step, Allows, Splits, Joins}
 use Rattle.atomic_table.proofs.Lists.{at_set}
-use Rattle.kt_law.specs.declared.limits.TheConstants.{TASKS}
+use Rattle.kt_law.specs.declared.limits.TheConstants.{TASKS, INDEXES}
 use Rattle.kt_order.specs.Machine.{Machine}
 use Rattle.kt_order.specs.Laws.{Laws}
-use Rattle.kt_order.specs.Forest.{Node, Nil, Forest, fresh}
+use Rattle.kt_order.specs.Forest.{Phase, Node, Nil, Forest, fresh}
 use Rattle.kt_order.specs.Lawful.{Lawful}
 use Rattle.kt_order.specs.Paths.{IsThere}
 use Rattle.kt_order.specs.Named.{named}
@@ -20,7 +22,8 @@ use Rattle.kt_prog.specs.Fits.{is_main}
 use Rattle.kt_prog.specs.Reference.{machine_of, main_placed, opened_with}
 use Rattle.kt_runs.specs.Rights.{rights_in}
 use Rattle.kt_runs.specs.ByPath.{Path, child, levels}
-use Rattle.kt_words.specs.Places.{record_word, worker_word, request, post}
+use Rattle.kt_words.specs.Places.{Own, record_word, worker_word, request, post, answer, interval, home}
+use Rattle.kt_words.specs.declared.pairs.Pair.{Pair}
 use Rattle.kt_words.specs.Words.{packed_post, packed_state}
 use Rattle.kt_words.specs.declared.layouts.Layout.{Layout}
 use Rattle.kt_words.specs.declared.layouts.TheConstants.{RECORDS, FIELDS}
@@ -29,20 +32,26 @@ use Rattle.kt_rule.specs.declared.views.Setup.{Setup}
 use Rattle.kt_rule.specs.declared.views.Spot.{Spot}
 use Rattle.kt_rule.specs.declared.views.Execution.{Execution}
 use Rattle.kt_rule.specs.declared.views.Promise.{Promise}
+use Rattle.kt_rule.specs.declared.views.Share.{Share}
+use Rattle.kt_rule.specs.declared.views.IndexRun.{IndexRun}
 use Rattle.kt_rule.specs.declared.views.View.{View}
 use Rattle.kt_rule.specs.Paths.{put}
 use Rattle.kt_rule.specs.Lists.{weigh, times, In, here, there}
 use Rattle.kt_rule.specs.Lies.{Stage, Waits, Posted, Lie, Lies, is_gone, get_of, core_of, counts_of, forks_of, IsHere}
-use Rattle.kt_rule.specs.Records.{layout_of, word_at, elements, drawn_at, own_record, state_of, access_word, field_of, frame_floor}
+use Rattle.kt_rule.specs.Records.{layout_of, word_at, elements, drawn_at, positions_at, own_record, state_of, access_word, field_of, frame_floor}
 use Rattle.kt_rule.specs.Views.{spot_path, path_of, promise_path, mine_in, claimed_in, promised_in, given_in, begun_in, drawn_in, main_berth, main_spot, blank_view, spent, quiet_desk, roots}
 use Rattle.kt_rule.specs.Facts.{is_there, is_claimed, is_promised, is_given, is_begun, tally, Sound, IsPublished, IsUnderWay, IsOver, IsGiven, IsKnownFinished, IsSo, Owns, Fits, Words, Drawn, Counts}
 use Rattle.kt_rule.specs.Requests.{IsPromised, Desked}
+use Rattle.kt_rule.specs.LoopWords.{LoopWords, Hand, between, pair_in, piece_in, piece_beside, own_word, loop_words, hand_of, hands_of}
+use Rattle.kt_rule.specs.LoopFacts.{in_hand, in_pair, in_given, index_times, is_taken, is_retired, task_tally, retired_of, piece_is, shown_pieces, count_piece, IsBooked, Handles, Looped}
 use Rattle.kt_rule.specs.Rule.{Slots, Facts, Holds}
 use Rattle.kt_rule.specs.Steps.{Tells, new_lie}
 use Rattle.kt_rule.specs.Close.{first_view, IsOpening, keeps_most, newcomer, together, Opens}
 use Rattle.kt_rule.proofs.Puts.{put_here, put_cases, at_put, get_at}
-use Rattle.kt_rule.proofs.Sums.{weigh_set, weigh_snoc, times_append, in_append, one_self, one_other}
+use Rattle.kt_rule.proofs.Sums.{weigh_set, weigh_snoc, weigh_append, times_append, in_append, one_self, one_other}
+use Rattle.kt_rule.proofs.LoopsStay.{sum_zero, no_piece}
 use Rattle.kt_rule.proofs.Moves.{each_view}
+use Rattle.kt_steps.proofs.LoopSeats.{at_hand, From, from_self, from_none, SaysOwn, pieces_with, retired_with, rearranged}
 use Rattle.kt_steps.proofs.Fresh.{snoc_at}
 use Rattle.kt_steps.proofs.Steps.{set_word, inside, holds_so}
 
@@ -109,8 +118,8 @@ owns_none j lies s f k k_is less some_seat = record {
 
 -- a seat is made for the next worker
 pub splits : (opening : List ℕ) (j : Setup) (id : ℕ) (v : View) → v.setup ≡ Some j → 1 < v.parts → 0 < v.made → v.made < j.workers
-    → v.draws.over ≡ 0 → Splits (Holds opening) id v (keeps_most v) (newcomer v)
-splits opening j id v setup parts made room none_over s hold at = holds_so opening _ j lies (record {
+    → v.draws.over ≡ 0 → v.loops.over ≡ 0 → Splits (Holds opening) id v (keeps_most v) (newcomer v)
+splits opening j id v setup parts made room none_over none_drawn s hold at = holds_so opening _ j lies (record {
   crew = f.crew;
   laws = f.laws;
   core = f.core;
@@ -157,6 +166,23 @@ splits opening j id v setup parts made room none_over s hold at = holds_so openi
         (λ k x e ne. f.drawn.crossed k x e) (λ some_over. absurd (omega arith));
   };
   stopped = f.stopped;
+  looped = rearranged j.workers lies (loop_words (layout_of j) s.words) s.views (vs ++ n ∷ []) f.looped (record {
+    positions = λ x. sums (λ (y : View). in_hand x (hand_of y)) refl refl;
+    pieces = λ a q. sums (λ (y : View). pieces_with a q y) refl refl;
+    taken = λ p i. sums (λ (y : View). index_times p i y.loops.taken) refl refl;
+    retired = λ p i. sums (λ (y : View). index_times p i y.loops.retired) refl refl;
+    left = λ p. sums (λ (y : View). retired_with p y) refl refl;
+    over = sums (λ (y : View). y.loops.over) refl refl;
+    from = each (λ k x. From s.views x.loops) (from_self s.views id v at) (λ k x e ne. from_self s.views k x e) (from_none s.views);
+    own = each (λ k x. SaysOwn j.workers s.views k x) (λ some_part. inl (v, at, omega arith, refl, refl, refl))
+        (λ k x e ne some_part. inl (x, e, some_part, refl, refl, refl))
+        (λ some_part. let a = len in let b = seats in inr (omega arith, omega arith, refl, refl));
+    overs = each (λ k x. x.loops.over ≤ x.parts) (omega arith) (λ k x e ne. (hands k x e).overs) (omega arith);
+    held = each (λ k x. x.loops.over ≤ length x.loops.pending) (hands id v at).held (λ k x e ne. (hands k x e).held) (omega arith);
+    crossed = each (λ k x. 0 < x.loops.over → INDEXES < word_at (layout_of j) s.words positions_at) (hands id v at).crossed
+        (λ k x e ne. (hands k x e).crossed) (λ some_over. absurd (omega arith));
+    longer = let a = len2 in omega arith;
+  });
   fits = each (Fits j lies s.words) (record {
     setup = λ live. fit.setup (omega arith);
     own = λ live. fit.own (omega arith);
@@ -198,6 +224,10 @@ splits opening j id v setup parts made room none_over s hold at = holds_so openi
 
     f : Facts j lies s
     f = there_is.1
+
+    hands : (k : ℕ) (x : View) → get_elem? s.views k ≡ some x
+        → Handles j.workers lies f.looped.owner (loop_words (layout_of j) s.words) (hands_of s.views) k (hand_of x)
+    hands k x e = f.looped.handles k (hand_of x) (at_hand s.views k x e)
 
     fit : Fits j lies s.words id v
     fit = f.fits id v at
@@ -299,6 +329,33 @@ joins opening j id v other w setup live unmaker s hold at apart at' = holds_so o
         (λ k x e. f.drawn.crossed k x e) (λ some_over. absurd (omega arith));
   };
   stopped = f.stopped;
+  looped = rearranged j.workers lies (loop_words (layout_of j) s.words) s.views (set vs other spent) f.looped (record {
+    positions = λ x. sums (λ (y : View). in_hand x (hand_of y)) (hands_both x) refl;
+    pieces = λ a q. sums (λ (y : View). pieces_with a q y) (weigh_append _ v.loops.pieces w.loops.pieces) refl;
+    taken = λ p i. sums (λ (y : View). index_times p i y.loops.taken) (weigh_append _ v.loops.taken w.loops.taken) refl;
+    retired = λ p i. sums (λ (y : View). index_times p i y.loops.retired) (weigh_append _ v.loops.retired w.loops.retired) refl;
+    left = λ p. sums (λ (y : View). retired_with p y) (weigh_append _ v.loops.retired w.loops.retired) refl;
+    over = sums (λ (y : View). y.loops.over) refl refl;
+    from = each (λ k x. From s.views x.loops) (record {
+      pending = λ x i. elim (in_append v.loops.pending w.loops.pending x i) [ inl h ↦ (id, v, at, h) | inr h ↦ (other, w, was, h) ];
+      pieces = λ x i. elim (in_append v.loops.pieces w.loops.pieces x i) [ inl h ↦ (id, v, at, h) | inr h ↦ (other, w, was, h) ];
+      taken = λ e i. elim (in_append v.loops.taken w.loops.taken e i) [ inl h ↦ (id, v, at, h) | inr h ↦ (other, w, was, h) ];
+      retired = λ e i. elim (in_append v.loops.retired w.loops.retired e i) [ inl h ↦ (id, v, at, h) | inr h ↦ (other, w, was, h) ];
+    }) (λ k x e. from_self s.views k x e) (from_none s.views);
+    own = each (λ k x. SaysOwn j.workers s.views k x) (λ some_part. inl (v, at, live, refl, refl, refl))
+        (λ k x e some_part. inl (x, e, some_part, refl, refl, refl)) (λ some_part. absurd (omega arith));
+    overs = each (λ k x. x.loops.over ≤ x.parts) (let c = (hands id v at).overs in let d = (hands other w was).overs in omega arith)
+        (λ k x e. (hands k x e).overs) (omega arith);
+    held = each (λ k x. x.loops.over ≤ length x.loops.pending) (let a = length-append v.loops.pending w.loops.pending in
+        let c = (hands id v at).held in let d = (hands other w was).held in omega arith) (λ k x e. (hands k x e).held) (omega arith);
+    crossed = each (λ k x. 0 < x.loops.over → INDEXES < word_at (layout_of j) s.words positions_at)
+        (λ some_over. elim (zero_or v.loops.over) [
+          | inl z ↦ (hands other w was).crossed (omega arith)
+          | inr z ↦ (hands id v at).crossed z
+        ])
+        (λ k x e. (hands k x e).crossed) (λ some_over. absurd (omega arith));
+    longer = let a = len in let c = len2 in omega arith;
+  });
   fits = each (Fits j lies s.words) (record {
     setup = λ some_part. fit.setup live;
     own = λ some_part. fit.own live;
@@ -374,6 +431,17 @@ joins opening j id v other w setup live unmaker s hold at apart at' = holds_so o
     fit : Fits j lies s.words id v
     fit = f.fits id v at
 
+    hands : (k : ℕ) (x : View) → get_elem? s.views k ≡ some x
+        → Handles j.workers lies f.looped.owner (loop_words (layout_of j) s.words) (hands_of s.views) k (hand_of x)
+    hands k x e = f.looped.handles k (hand_of x) (at_hand s.views k x e)
+
+    hands_both : (x : ℕ) → in_hand x (hand_of b) ≡ in_hand x (hand_of v) + in_hand x (hand_of w)
+    hands_both x =
+        let a = weigh_append (λ (y : Share). between y.low y.high x) v.loops.pending w.loops.pending in
+        let c = weigh_append (λ (y : Share). between y.low y.high x) v.loops.pieces w.loops.pieces in
+        let d = weigh_append (λ (e : IndexRun). between e.position (suc e.position) x) v.loops.taken w.loops.taken in
+        let e = weigh_append (λ (e : IndexRun). between e.position (suc e.position) x) v.loops.retired w.loops.retired in omega arith
+
     fit2 : Fits j lies s.words other w
     fit2 = f.fits other w was
 
@@ -398,6 +466,21 @@ idle_post a e = omega arith
 idle_zero : packed_post P.Idle ≡ 0
 unfolding packed_post
 idle_zero = refl
+
+abbrev no_pair : Pair
+no_pair = record { low = 0; high = 0 }
+
+pair_zero : pair_in 0 ≡ no_pair
+unfolding pair_in
+pair_zero = refl
+
+piece_zero : piece_in 0 ≡ 0
+unfolding piece_in
+piece_zero = refl
+
+beside_zero : piece_beside 0 0 ≡ no_pair
+unfolding piece_in
+beside_zero = refl
 
 -- the table as it is made
 module _ (j : Setup) (laws : Laws (machine_of j.program) (rights_in j.program)) (ws : List ℕ) (some_workers : 0 < j.workers)
@@ -491,6 +574,74 @@ module _ (j : Setup) (laws : Laws (machine_of j.program) (rights_in j.program)) 
     | no n ↦ (let h = op.others (own_record 0 a) n (omega arith) in omega arith)
   ]
 
+  -- no word of a worker says anything of loops
+  no_word : (o : Own) (k : ℕ) → own_word (layout_of j) ws o k ≡ 0
+  no_word o k = go (nat_lt k j.workers) refl
+    where
+      go : (b : Bool) → nat_lt k j.workers ≡ b → cond b (word_at (layout_of j) ws (worker_word k o)) 0 ≡ 0
+      go true e = op.own k o (let h : k < j.workers = grind (arith, nat_tests) in h)
+      go false e = refl
+
+  abbrev no_words : LoopWords
+  no_words = record { drawn = 0; interval = λ k. no_pair; home = λ k. 0; given = λ k. 0; piece = λ k. no_pair }
+
+  words_are : loop_words (layout_of j) ws ≡ no_words
+  words_are =
+      let intervals = fun_ext (λ k. ap pair_in (no_word interval k) ∙ pair_zero) in
+      let homes = fun_ext (λ k. no_word home k) in
+      let posts = fun_ext (λ k. ap piece_in (no_word post k) ∙ piece_zero) in
+      let answers = fun_ext (λ k. (λ i. piece_beside (no_word post k i) (no_word answer k i)) ∙ beside_zero) in
+      λ i. record { drawn = op.positions i; interval = intervals i; home = homes i; given = posts i; piece = answers i }
+
+  no_index : (g : Phase → ℕ) (p : Path) (i : ℕ) → 0 ≡ task_tally g i (lies p)
+  no_index g p i = elim (put_cases (λ _. none) [] (some main) p) [
+    | inl h ↦ sym (ap (task_tally g i) h.1)
+    | inr h ↦ sym (ap (task_tally g i) h.1)
+  ]
+
+  opened : Looped j.workers lies no_words (hands_of (first_view j ∷ []))
+  opened = record {
+    owner = λ _. [];
+    positions = λ x. let a = sum_zero j.workers (λ k. in_pair no_pair x) (λ k less. omega arith) in
+        let b = sum_zero j.workers (λ k. in_given 0 no_pair x) (λ k less. refl) in omega arith;
+    owned = λ p t x is low high. let a = ap (λ (z : Lie). z.first + length z.indexes) (only p t is).1 in absurd (omega arith);
+    homes = λ k less long. absurd (omega arith);
+    given = λ k a less is. absurd (omega arith);
+    booked = each_lie (λ p t. IsBooked t) (record {
+      early = λ _. (refl, refl);
+      whole = inl refl;
+      rises = tt;
+      book = record { pieces = tt; covers = λ i. refl; none_ended = tt; retired = omega arith };
+    });
+    shown = λ p t q is live. each_lie
+        (λ p t. shown_pieces j.workers no_words (hands_of (first_view j ∷ [])) t.berth.at q ≡ count_piece q t.first t.pieces)
+        (let a = sum_zero j.workers (λ k. piece_is 0 0 0 0 q) (λ k less. no_piece 0 0 0 0 q (λ e long. absurd (omega arith))) in omega arith) p t is;
+    taken = λ p i. no_index is_taken p i;
+    retired = λ p i. no_index is_retired p i;
+    left = each_lie (λ p t. t.unretired + retired_of p (hands_of (first_view j ∷ [])) ≡ t.berth.call.length) (omega arith);
+    childless = λ p i t u is child_is. absurd (nil_child p i (only (child p i) u child_is).0);
+    handles = first_hand;
+    unmade = λ k from less. (omega arith, refl);
+    bound = omega arith;
+  }
+    where
+      first_hand : (seat : ℕ) (h : Hand) → get_elem? (hands_of (first_view j ∷ [])) seat ≡ some h
+          → Handles j.workers lies (λ _. []) no_words (hands_of (first_view j ∷ [])) seat h
+      first_hand zero h e = subst (Handles j.workers lies (λ _. []) no_words (hands_of (first_view j ∷ [])) 0)
+          (some-injective (hand_of (first_view j)) h e) (record {
+            pending = λ x i. elim i [ ];
+            pieces = λ x i. elim i [ ];
+            taken = λ e i. elim i [ ];
+            retired = λ e i. elim i [ ];
+            free = λ live d. omega arith;
+            home = λ live. refl;
+            sight = λ live n d. absurd (let z : None ≡ Some n = d in cc);
+            overs = omega arith;
+            held = omega arith;
+            crossed = λ some_over. absurd (omega arith);
+          })
+      first_hand (suc seat) h e = absurd (some-ne-none h (sym e))
+
   pub opens : Facts j lies record { words = ws; homes = []; views = first_view j ∷ [] }
   opens = record {
     crew = few_workers;
@@ -566,6 +717,7 @@ module _ (j : Setup) (laws : Laws (machine_of j.program) (rights_in j.program)) 
       crossed = each_first (λ k x. 0 < x.draws.over → TASKS < word_at (layout_of j) ws drawn_at) (λ some_over. absurd (omega arith));
     };
     stopped = record { word = inl op.stop };
+    looped = subst (λ (z : LoopWords). Looped j.workers lies z (hands_of (first_view j ∷ []))) (sym words_are) opened;
     fits = each_first (Fits j lies ws) (record {
       setup = λ live. refl;
       own = λ live. refl;

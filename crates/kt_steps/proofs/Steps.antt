@@ -1,6 +1,6 @@
 -- Steps on a task that is there: a claim, a start, an operation on an element, a finish. Each turns one task and one
 -- word, and ends in `turned`.
-use Rattle.std.proofs.Common.{◌≡◌, ◌≢◌, ℕ, zero, suc, ◌+◌, ◌*◌, ◌<◌, ◌≤◌, ◌⊎◌, eqb, false, cond, List, [], ◌∷◌, ◌++◌, append-nil, set, map, take, get_or, length, slice_index, sym, refl, ap, ◌∙◌, subst, inl, inr, arith, ⊎_elim, MatchBool, eq-eqb, ne_eqb, length-set, length-append, Option, Some, None}
+use Rattle.std.proofs.Common.{true, ◌≡◌, ◌≢◌, ℕ, zero, suc, ◌+◌, ◌*◌, ◌<◌, ◌≤◌, ◌⊎◌, eqb, false, cond, List, [], ◌∷◌, ◌++◌, append-nil, set, map, take, get_or, length, slice_index, sym, refl, ap, ◌∙◌, subst, inl, inr, arith, ⊎_elim, MatchBool, eq-eqb, ne_eqb, length-set, length-append, Option, Some, None}
 use mathlib.Core.Option.{some, some-injective, some-ne-none}
 use prog.Atomic.{either}
 use lib.ListN.{get_elem?}
@@ -50,6 +50,7 @@ use Rattle.kt_rule.specs.Records.{layout_of, word_at, elements, state_of, later_
 use Rattle.kt_rule.specs.Views.{spot_path, path_of, promise_path, claimed_in, promised_in, given_in, begun_in, frames, roots, children, blank_view}
 use Rattle.kt_rule.specs.Facts.{is_claimed, is_promised, is_given, is_begun, tally, Sound, Words, task_in, Agrees, IsUnderWay, IsOver, IsGiven, Falls, Owns, Fits, waiting}
 use Rattle.kt_rule.specs.Requests.{IsPromised}
+use Rattle.kt_rule.specs.LoopFacts.{is_early}
 use Rattle.kt_rule.specs.Rule.{Slots, Facts, Holds}
 use Rattle.kt_rule.specs.Steps.{begun_by, with_begun, won_own, won_for, BeforeKnown, IsReady, starts_own, starts, over, ends, heard, did_one, does_one}
 use Rattle.kt_rule.proofs.Puts.{put_here, put_else, get_at}
@@ -431,6 +432,16 @@ module _ (j : Setup) (lies : Lies) (s : State Slots View) (f : Facts j lies s) (
   not_gone Done a = refl
   not_gone Gone a = absurd (omega arith)
 
+  not_looped : (x : Stage) → is_begun x ≡ 0 → is_early x ≡ true
+  not_looped Waits a = refl
+  not_looped (Promised k) a = refl
+  not_looped (Posted k) a = refl
+  not_looped (Given k) a = refl
+  not_looped (Runs k) a = refl
+  not_looped (Loops k) a = absurd (omega arith)
+  not_looped Done a = absurd (omega arith)
+  not_looped Gone a = absurd (omega arith)
+
   turn : Turn l lies s.words p t u ws'
   turn = turn_state l lies s.words p t u f.words is (not_gone t.stage idle) refl refl (λ e. absurd (not_finished t.stage idle e))
       (λ g. same_fields g)
@@ -480,6 +491,7 @@ module _ (j : Setup) (lies : Lies) (s : State Slots View) (f : Facts j lies s) (
         → Facts j (put lies p (some u)) record { words = ws'; homes = s.homes; views = set s.views id w }
     begin_now tc tp tg promises gives others = turned j lies s p t u ws' id v tasks v.seen.known f at live (record {
       turn = turn;
+      loop = record { berth = refl; first = refl; unretired = refl; indexes = refl; pieces = refl; gone = sym (not_gone t.stage idle); early = λ e. not_looped t.stage idle };
       core = core;
       unposted = unposted;
       unposted_now = runs_unposted worker;
@@ -595,6 +607,7 @@ module _ (j : Setup) (lies : Lies) (s : State Slots View) (f : Facts j lies s) (
               fresh = λ e. sound2.fresh
                   (ap is_begun waits);
             });
+        loop = record { berth = refl; first = refl; unretired = refl; indexes = refl; pieces = refl; gone = sym (ap is_gone waits); early = λ e. ap is_early waits };
         core = claimed_core (Promised thief) refl;
         unposted = unposted2;
         unposted_now = promised_unposted thief;
@@ -883,6 +896,7 @@ module _ (j : Setup) (lies : Lies) (s : State Slots View) (f : Facts j lies s) (
             fresh = λ
                 z. let a = ap is_begun head_runs.1 in absurd (omega arith);
           }) e2 (effect d.deed n) in_e refl;
+      loop = record { berth = refl; first = refl; unretired = refl; indexes = refl; pieces = refl; gone = refl; early = λ x. x };
       core = subst (Cored j (put lies q (some u5))) (sym after_is)
           (cores.does j f.laws lies (elements l2 s.words) f.core q lie head_is head_running d k next_lie u5 refl u5_is);
       unposted = λ x z. runs_unposted head_runs.0 x (sym head_runs.1 ∙ z);
@@ -949,6 +963,7 @@ module _ (j : Setup) (lies : Lies) (s : State Slots View) (f : Facts j lies s) (
             fresh = λ z. let a :
                 is_begun Done ≡ 1 = refl in absurd (omega arith);
           });
+      loop = record { berth = refl; first = refl; unretired = refl; indexes = refl; pieces = refl; gone = sym head_live; early = λ x. cc };
       core = subst (Cored j (put lies q (some u6)))
           (sym (elements_else l2 s.words (record_word lie.berth.at 0) (packed_state (state_of u6))
           (f.words.inside q lie head_is, omega arith) tt))

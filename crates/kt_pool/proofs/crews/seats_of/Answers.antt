@@ -13,7 +13,8 @@ split_seat-token-requires c =
       i.seat.0 ∙ c.requires.seat.0,
       omega arith,
       splits c.args.t.now.table.shared.key.items q.0 c.loop-worker.first.id c.loop-worker.first.me.0 (ap (λ z. z.setup) e)
-          (omega (arith, c.loop-worker-test.true, q.2)) (omega arith) (omega (arith, c.loop-worker-test.true, q.2)) (ap (λ z. z.draws.over) e),
+          (omega (arith, c.loop-worker-test.true, q.2)) (omega arith) (omega (arith, c.loop-worker-test.true, q.2)) (ap (λ z. z.draws.over) e)
+          (ap (λ z. z.loops.over) e),
     )
 
 pub loop-worker-preserved : goal.loop-worker-preserved
