@@ -3,4 +3,4 @@
 
 mod opening;
 
-pub use opening::{Unopened, open_job};
+pub use opening::{Unopened, open_data, open_job, open_program};

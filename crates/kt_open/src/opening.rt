@@ -1,8 +1,8 @@
 // A job is opened: its program is read and checked, and its data are read.
-ghost use Rattle.std.specs.Prelude.{◌≡◌, ◌<◌, length, IfErr, IfOk};
+ghost use Rattle.std.specs.Prelude.{◌≡◌, ◌<◌, ◌≤◌, length, IfErr, IfOk};
 ghost use Rattle.kt_prog.specs.Objects.{inputs_of};
-ghost use Rattle.kt_open.specs.Answers.{Opened};
-ghost use Rattle.kt_open.specs.Unopened.{IsUnopened};
+ghost use Rattle.kt_open.specs.Answers.{Opened, Opens};
+ghost use Rattle.kt_open.specs.Unopened.{IsNoProgram, IsUnopened};
 
 use kt_check::{CheckRefusal, check_indexed};
 use kt_print::Line;
@@ -20,14 +20,13 @@ pub enum Unopened {
     NoMemory,
 }
 
-/// The accepted program of the job, and the numbers that it wants, in order.
-pub fn open_job(alloc: Global, job: &[u8]) -> Result<(Program, Vec<u64>), Unopened>
+/// The accepted program of the job, and where its data begin, which are not looked at.
+pub fn open_program(alloc: Global, job: &[u8]) -> Result<(Program, usize), Unopened>
     requires { length job.now < u32.MAX }
-    ensures opened { IfOk result (λ opened. Opened job.now opened.0 opened.1.items) }
-    ensures whole { IfOk result (λ opened. length opened.1.items ≡ inputs_of opened.0.families) }
-    ensures unopened { IfErr result (IsUnopened job.now) }
+    ensures opened { IfOk result (λ opened. Opens job.now opened.0 opened.1 (inputs_of opened.0.families)) }
+    ensures inside { IfOk result (λ opened. opened.1 ≤ length job.now) }
+    ensures unopened { IfErr result (IsNoProgram job.now) }
 {
-    few_objects();
     let (program, from) = match read_program(alloc, job) {
         Ok(read) => read,
         Err(ReadRefusal::Refused(refusal)) => {
@@ -36,19 +35,46 @@ pub fn open_job(alloc: Global, job: &[u8]) -> Result<(Program, Vec<u64>), Unopen
         Err(ReadRefusal::NoMemory) => return Err(Unopened::NoMemory),
     };
     match check_indexed(alloc, &program) {
-        Ok(()) => {}
-        Err(CheckRefusal::Refused(refusal)) => {
-            return Err(Unopened::Line(Line::Refused(refusal)));
-        }
-        Err(CheckRefusal::NoMemory) => return Err(Unopened::NoMemory),
+        Ok(()) => Ok((program, from)),
+        Err(CheckRefusal::Refused(refusal)) => Err(Unopened::Line(Line::Refused(refusal))),
+        Err(CheckRefusal::NoMemory) => Err(Unopened::NoMemory),
     }
-    match read_data(alloc, job, from, inputs(&program)) {
-        Ok(input) => Ok((program, input)),
+}
+
+/// The numbers that the program of the job wants, in order. Its data begin at `from`.
+pub fn open_data(
+    alloc: Global,
+    job: &[u8],
+    from: usize,
+    program: &Program,
+) -> Result<Vec<u64>, Unopened>
+    requires short { length job.now < u32.MAX }
+    requires opens { Opens job.now program.now from (inputs_of program.now.families) }
+    requires inside { from ≤ length job.now }
+    ensures opened { IfOk result (λ input. Opened job.now program.now input.items) }
+    ensures whole { IfOk result (λ input. length input.items ≡ inputs_of program.now.families) }
+    ensures unopened { IfErr result (IsUnopened job.now) }
+{
+    few_objects();
+    match read_data(alloc, job, from, inputs(program)) {
+        Ok(input) => Ok(input),
         Err(DataError::BadNumber(place)) => Err(Unopened::Line(Line::BadNumber(place))),
         Err(DataError::TooFew(found, wanted)) => Err(Unopened::Line(Line::TooFew(found, wanted))),
         Err(DataError::TooMany(place)) => Err(Unopened::Line(Line::TooMany(place))),
         Err(DataError::NoMemory) => Err(Unopened::NoMemory),
     }
+}
+
+/// The accepted program of the job, and the numbers that it wants, in order.
+pub fn open_job(alloc: Global, job: &[u8]) -> Result<(Program, Vec<u64>), Unopened>
+    requires { length job.now < u32.MAX }
+    ensures opened { IfOk result (λ opened. Opened job.now opened.0 opened.1.items) }
+    ensures whole { IfOk result (λ opened. length opened.1.items ≡ inputs_of opened.0.families) }
+    ensures unopened { IfErr result (IsUnopened job.now) }
+{
+    let (program, from) = open_program(alloc, job)?;
+    let input = open_data(alloc, job, from, &program)?;
+    Ok((program, input))
 }
 
 #[cfg(test)]
