@@ -1,5 +1,5 @@
--- Words that ask for a run by events name 1 to 8 workers.
-use Rattle.std.proofs.Common.{◌≡◌, ◌≤◌, ℕ, Bool, true, false, List, [], ◌∷◌, Some, None, Option, if◌then◌else◌, ◌&&◌, nat_le, arith}
+-- Words that ask for a run by events, or by workers, name 1 to 8 of them.
+use Rattle.std.proofs.Common.{◌≡◌, ◌≤◌, ℕ, Bool, true, false, List, [], ◌∷◌, Some, None, Option, if◌then◌else◌, ◌&&◌, nat_le, refl, subst, arith}
 use Rattle.std.proofs.lemmas.Bool.Decides.{nat_tests}
 use Rattle.std.specs.Prelude.{bytes_eq, codes}
 use Rattle.kt_law.specs.declared.limits.TheConstants.{WORKERS}
@@ -9,46 +9,61 @@ use Rattle.kt_text.specs.declared.commands.Kind.{Kind}
 use Rattle.kt_text.specs.declared.commands.Command.{Command}
 use Rattle.kt_text.specs.declared.commands.Command.TheVariants as C
 
-one : (b c : Bool) (w n : ℕ) → (if b then Some C.Check else if c then Some C.Seq else None) ≡ Some (C.Sim w n) → ⊥
-one true c w n e = cc
-one false true w n e = cc
-one false false w n e = cc
+abbrev pub IsFew : ℕ → Type 0
+IsFew w = (1 ≤ w) × (w ≤ WORKERS)
 
-two : (b : Bool) (o : Option ℕ) (w n : ℕ) → (if b then run_of o else None) ≡ Some (C.Sim w n) → ⊥
-two true (Some workers) w n e = cc
-two true None w n e = cc
-two false o w n e = cc
+-- the workers that are asked for are few
+abbrev HasFew : Option Command → Type 0
+HasFew (Some (C.Sim w number)) = IsFew w
+HasFew (Some (C.Run w)) = IsFew w
+HasFew _ = Unit {0}
 
-four : (b : Bool) (o : Option (Kind × ℕ)) (q : Option ℕ) (w n : ℕ) → (if b then gen_of o q else None) ≡ Some (C.Sim w n) → ⊥
-four true (Some sized) (Some number) w n e = cc
-four true (Some sized) None w n e = cc
-four true None q w n e = cc
-four false o q w n e = cc
+one : (b c : Bool) → HasFew (if b then Some C.Check else if c then Some C.Seq else None)
+one true c = tt
+one false true = tt
+one false false = tt
 
-five : (b : Bool) (o : Option (Kind × ℕ)) (q r : Option ℕ) (w n : ℕ) → (if b then demo_of o q r else None) ≡ Some (C.Sim w n) → ⊥
-five true (Some sized) (Some number) (Some workers) w n e = cc
-five true (Some sized) (Some number) None w n e = cc
-five true (Some sized) None r w n e = cc
-five true None q r w n e = cc
-five false o q r w n e = cc
+two : (b : Bool) (o : Option ℕ) → ((x : ℕ) → o ≡ Some x → IsFew x) → HasFew (if b then run_of o else None)
+two true (Some workers) few = few workers refl
+two true None few = tt
+two false o few = tt
 
-between : (a : Bool) (x w : ℕ) → (if a && nat_le 1 x && nat_le x WORKERS then Some x else None) ≡ Some w → (1 ≤ w) × (w ≤ WORKERS)
+three : (b : Bool) (o q : Option ℕ) → ((x : ℕ) → o ≡ Some x → IsFew x) → HasFew (if b then sim_of o q else None)
+three true (Some workers) (Some number) few = few workers refl
+three true (Some workers) None few = tt
+three true None q few = tt
+three false o q few = tt
+
+four : (b : Bool) (o : Option (Kind × ℕ)) (q : Option ℕ) → HasFew (if b then gen_of o q else None)
+four true (Some sized) (Some number) = tt
+four true (Some sized) None = tt
+four true None q = tt
+four false o q = tt
+
+five : (b : Bool) (o : Option (Kind × ℕ)) (q r : Option ℕ) → HasFew (if b then demo_of o q r else None)
+five true (Some sized) (Some number) (Some workers) = tt
+five true (Some sized) (Some number) None = tt
+five true (Some sized) None r = tt
+five true None q r = tt
+five false o q r = tt
+
+between : (a : Bool) (x w : ℕ) → (if a && nat_le 1 x && nat_le x WORKERS then Some x else None) ≡ Some w → IsFew w
 between a x w e = grind (arith, nat_tests)
 
-three : (b : Bool) (o q : Option ℕ) (w n : ℕ) → ((x : ℕ) → o ≡ Some x → (1 ≤ x) × (x ≤ WORKERS)) → (if b then sim_of o q else None) ≡ Some (C.Sim w n)
-    → (1 ≤ w) × (w ≤ WORKERS)
-three true (Some workers) (Some number) w n few e = few w (cc)
-three true (Some workers) None w n few e = cc
-three true None q w n few e = cc
-three false o q w n few e = cc
+named : (word : List ℕ) (x : ℕ) → workers_of word ≡ Some x → IsFew x
+named word x h = between (is_number word) (value_of word) x h
 
-pub few_workers : (words : List (List ℕ)) (w n : ℕ) → command_of words ≡ Some (C.Sim w n) → (1 ≤ w) × (w ≤ WORKERS)
-few_workers [] w n e = cc
-few_workers (name ∷ []) w n e = absurd (one (bytes_eq name (codes "check")) (bytes_eq name (codes "seq")) w n e)
-few_workers (name ∷ (v ∷ [])) w n e = absurd (two (bytes_eq name (codes "run")) (workers_of v) w n e)
-few_workers (name ∷ (v ∷ (number ∷ []))) w n e =
-    three (bytes_eq name (codes "sim")) (workers_of v) (number_of number) w n (λ x h. between (is_number v) (value_of v) x h) e
-few_workers (name ∷ (kind ∷ (size ∷ (number ∷ [])))) w n e = absurd (four (bytes_eq name (codes "gen")) (sized_of kind size) (number_of number) w n e)
-few_workers (name ∷ (kind ∷ (size ∷ (number ∷ (v ∷ []))))) w n e =
-    absurd (five (bytes_eq name (codes "demo")) (sized_of kind size) (number_of number) (workers_of v) w n e)
-few_workers (name ∷ (kind ∷ (size ∷ (number ∷ (v ∷ (x ∷ more)))))) w n e = cc
+has_few : (words : List (List ℕ)) → HasFew (command_of words)
+has_few [] = tt
+has_few (name ∷ []) = one (bytes_eq name (codes "check")) (bytes_eq name (codes "seq"))
+has_few (name ∷ (v ∷ [])) = two (bytes_eq name (codes "run")) (workers_of v) (named v)
+has_few (name ∷ (v ∷ (number ∷ []))) = three (bytes_eq name (codes "sim")) (workers_of v) (number_of number) (named v)
+has_few (name ∷ (kind ∷ (size ∷ (number ∷ [])))) = four (bytes_eq name (codes "gen")) (sized_of kind size) (number_of number)
+has_few (name ∷ (kind ∷ (size ∷ (number ∷ (v ∷ []))))) = five (bytes_eq name (codes "demo")) (sized_of kind size) (number_of number) (workers_of v)
+has_few (name ∷ (kind ∷ (size ∷ (number ∷ (v ∷ (x ∷ more)))))) = tt
+
+pub few_workers : (words : List (List ℕ)) (w number : ℕ) → command_of words ≡ Some (C.Sim w number) → IsFew w
+few_workers words w number e = subst HasFew e (has_few words)
+
+pub few_in_crew : (words : List (List ℕ)) (w : ℕ) → command_of words ≡ Some (C.Run w) → IsFew w
+few_in_crew words w e = subst HasFew e (has_few words)

@@ -7,13 +7,14 @@ use Rattle.kt_prog.specs.Accepted.{IsAccepted}
 use Rattle.kt_prog.specs.Refusals.{refusal_of, noted}
 use Rattle.kt_prog.specs.declared.programs.Program.{Program}
 use Rattle.kt_print.specs.declared.lines.Line.{Line}
-use Rattle.kt_open.specs.Answers.{Answered, IsAnswer, IsRefused, Unopens, answered_line}
+use Rattle.kt_print.specs.declared.lines.Line.TheVariants as L
+use Rattle.kt_open.specs.Answers.{IsAnswer, IsRefused, Unopens, answered_line}
 use Rattle.kt_open.specs.Answers.{IsAnswer as I, Unopens as U}
 use Rattle.kt_open.specs.Answers.IsRefused.{unread, broken}
 use Rattle.kt_read.specs.Jobs.{IsJob}
 use Rattle.kt_read.specs.Laws.{OneJob, JobIsRead}
-use Rattle.kaapi.specs.Answers.{told}
-use Rattle.kaapi.specs.Exits.{number_of}
+use Rattle.kaapi.specs.Answers.{answered_by, told}
+use Rattle.kaapi.specs.Exits.{ends_run, number_of}
 use Rattle.kaapi.specs.Jobs.{exit_of}
 use Rattle.kaapi.specs.declared.exits.Exit.{Exit}
 
@@ -21,9 +22,6 @@ use Rattle.kaapi.specs.declared.exits.Exit.{Exit}
 pub ok_then : {A E : Type 0} (r : Result A E) (P Q : A → Type 0) → IfOk r P → ((a : A) → P a → Q a) → IfOk r Q
 ok_then (Ok a) P Q h f = f a h
 ok_then (Err e) P Q h f = tt
-
-abbrev pub answered_by : Said Exit → Answered
-answered_by reply = record { status = number_of reply.exit; text = reply.text }
 
 pub of_line : (bytes : List ℕ) (exit : Exit) (line : Line) (reply : Said Exit) → IsAnswer bytes (answered_line (number_of exit) line) → reply ≡ told exit line →
     IsAnswer bytes (answered_by reply)
@@ -34,6 +32,18 @@ not_accepted p r refused accepted =
     let none = ap (noted None) accepted in
     let both : None ≡ Some r = sym none ∙ refused in
     cc
+
+-- the line of a job that has no run ends none
+pub line_is_no_run : (line : Line) → ends_run (exit_of line) ≡ false
+line_is_no_run L.Usage = refl
+line_is_no_run L.TooLong = refl
+line_is_no_run (L.Refused refusal) = refl
+line_is_no_run (L.BadNumber place) = refl
+line_is_no_run (L.TooFew found wanted) = refl
+line_is_no_run (L.TooMany place) = refl
+line_is_no_run (L.Fault fault) = refl
+line_is_no_run L.Limit = refl
+line_is_no_run (L.Totals tasks indexes sum) = refl
 
 -- a job that is refused has no accepted program
 pub never_accepted : OneJob → JobIsRead → (bytes : List ℕ) (r : Refusal) → IsRefused bytes r → (p : Program) (from : ℕ) → IsJob bytes p from → IsAccepted p → ⊥

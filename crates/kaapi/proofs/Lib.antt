@@ -3,3 +3,5 @@ pub mod Endings
 pub mod OneAnswer
 pub mod FewWorkers
 pub mod FitSizes
+pub mod Records
+pub mod WithoutLoops

@@ -5,7 +5,6 @@ use Rattle.kt_law.specs.declared.limits.TheConstants.{JOB}
 use Rattle.kt_law.specs.declared.places.Place.{Place}
 use Rattle.kt_law.specs.declared.places.Refusal.{Refusal}
 use Rattle.kt_text.specs.Data.{numbers}
-use Rattle.kt_text.specs.Words.{command_of}
 use Rattle.kt_text.specs.declared.commands.Command.{Command}
 use Rattle.kt_text.specs.declared.commands.Command.TheVariants as C
 use Rattle.kt_text.specs.declared.data.DataError.{DataError}
@@ -24,14 +23,14 @@ use Rattle.kt_open.specs.Answers.{IsAnswer as I, Unopens as U}
 use Rattle.kt_open.specs.Answers.IsRefused.{unread, broken}
 use Rattle.kt_read.specs.Jobs.{IsJob}
 use Rattle.kt_read.specs.Laws.{OneJob, OneRefusal, JobIsRead}
-use Rattle.kaapi.specs.Answers.{AnswersCheck, AnswersRun, AnswersJob, AnswersCommand, told}
-use Rattle.kaapi.specs.Answers.{AnswersCheck as K}
+use Rattle.kaapi.specs.Answers.{AnswersCheck, AnswersRun, AnswersJob, AnswersCommand, AnswersThreads, answered_by, told}
+use Rattle.kaapi.specs.Answers.{AnswersCheck as K, AnswersThreads as T}
 use Rattle.kaapi.specs.Answers.AnswersJob.{too_long, within}
 use Rattle.kaapi.specs.Exits.{number_of}
 use Rattle.kaapi.specs.Laws.{OneAnswer}
 use Rattle.kaapi.specs.declared.exits.Exit.{Exit}
 use Rattle.kaapi.specs.declared.exits.Exit.TheVariants as E
-use Rattle.kaapi.proofs.JobReplies.{answered_by, never_accepted, not_accepted}
+use Rattle.kaapi.proofs.JobReplies.{never_accepted, not_accepted}
 
 same_some : {A : Type 0} {o : Option A} {a b : A} → o ≡ Some a → o ≡ Some b → a ≡ b
 same_some h k = cc
@@ -124,7 +123,7 @@ module _ (one_job : OneJob) (one_refusal : OneRefusal) (is_read : JobIsRead) whe
   abbrev exit_of : ℕ → Exit
   exit_of n =
       get_or
-      (E.Done ∷ E.Done ∷ E.Usage ∷ E.ReadFault ∷ E.WriteFault ∷ E.Refused ∷ E.BadData ∷ E.Fault ∷ E.Limit ∷ E.TooLong ∷ E.NoMemory ∷ []) n
+      (E.Done ∷ E.Done ∷ E.Usage ∷ E.ReadFault ∷ E.WriteFault ∷ E.Refused ∷ E.BadData ∷ E.Fault ∷ E.Limit ∷ E.TooLong ∷ E.NoMemory ∷ E.NotBuilt ∷ []) n
       E.Done
 
   its_exit : (a : Exit) → exit_of (number_of a) ≡ a
@@ -138,6 +137,7 @@ module _ (one_job : OneJob) (one_refusal : OneRefusal) (is_read : JobIsRead) whe
   its_exit E.Limit = refl
   its_exit E.TooLong = refl
   its_exit E.NoMemory = refl
+  its_exit E.NotBuilt = refl
 
   same_reply : (a b : Said Exit) → answered_by a ≡ answered_by b → a ≡ b
   same_reply a b h =
@@ -147,6 +147,12 @@ module _ (one_job : OneJob) (one_refusal : OneRefusal) (is_read : JobIsRead) whe
 
   one_run_answer : (job : List ℕ) (a b : Said Exit) → AnswersRun job a → AnswersRun job b → a ≡ b
   one_run_answer job a b h k = same_reply a b (one_run job (answered_by a) (answered_by b) h k)
+
+  one_by_threads : (job : List ℕ) (a b : Said Exit) → AnswersThreads job a → AnswersThreads job b → a ≡ b
+  one_by_threads job a b (T.as_run none h) (T.as_run also k) = one_run_answer job a b h k
+  one_by_threads job a b (T.as_run none h) (T.loops declares) = absurd (none declares)
+  one_by_threads job a b (T.loops declares) (T.as_run none k) = absurd (none declares)
+  one_by_threads job a b (T.loops declares) (T.loops also) = refl
 
   one_job_answer : (Given : List ℕ → Said Exit → Type 0) (job : List ℕ) → ((a b : Said Exit) → Given job a → Given job b → a ≡ b)
       → (a b : Said Exit) → AnswersJob Given job a → AnswersJob Given job b → a ≡ b
@@ -160,9 +166,9 @@ module _ (one_job : OneJob) (one_refusal : OneRefusal) (is_read : JobIsRead) whe
   one_command (Some C.Seq) job a b h k = one_job_answer AnswersRun job (one_run_answer job) a b h k
   one_command (Some (C.Sim workers number)) job a b h k = one_job_answer AnswersRun job (one_run_answer job) a b h k
   one_command (Some (C.Gen kind size number)) job a b h k = h ∙ sym k
-  one_command (Some (C.Run workers)) job a b h k = h ∙ sym k
+  one_command (Some (C.Run workers)) job a b h k = one_job_answer AnswersThreads job (one_by_threads job) a b h k
   one_command (Some (C.Demo kind size number workers)) job a b h k = h ∙ sym k
   one_command None job a b h k = h ∙ sym k
 
 pub one_answer : OneJob → OneRefusal → JobIsRead → OneAnswer
-one_answer one_job one_refusal is_read words job a b h k = one_command one_job one_refusal is_read (command_of words) job a b h k
+one_answer one_job one_refusal is_read command job a b h k = one_command one_job one_refusal is_read command job a b h k

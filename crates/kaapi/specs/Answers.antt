@@ -1,5 +1,5 @@
 -- What the words and a job are answered: an exit and a text.
-use Rattle.std.specs.Prelude.{◌≡◌, ◌≤◌, ◌<◌, ℕ, List, length, Bool, true, false, Option, Some, None}
+use Rattle.std.specs.Prelude.{◌≡◌, ◌≤◌, ◌<◌, ℕ, List, length, Bool, true, false, Option, Some, None, codes}
 use Rattle.kt_io.specs.Ending.{Said, Faults}
 use Rattle.kt_law.specs.declared.limits.TheConstants.{JOB}
 use Rattle.kt_law.specs.declared.places.Refusal.{Refusal}
@@ -14,8 +14,9 @@ use Rattle.kt_print.specs.CanonicalText.{canonical_text}
 use Rattle.kt_print.specs.Lines.{line_of}
 use Rattle.kt_print.specs.declared.lines.Line.{Line}
 use Rattle.kt_print.specs.declared.lines.Line.TheVariants as L
-use Rattle.kt_open.specs.Answers.{IsAnswer, IsRefused}
+use Rattle.kt_open.specs.Answers.{Answered, IsAnswer, IsRefused}
 use Rattle.kt_read.specs.Jobs.{IsJob}
+use Rattle.kt_worker.specs.Programs.{has_loop}
 use Rattle.kaapi.specs.Exits.{number_of}
 use Rattle.kaapi.specs.declared.exits.Exit.{Exit}
 use Rattle.kaapi.specs.declared.exits.Exit.TheVariants as E
@@ -38,18 +39,43 @@ pub data AnswersCheck (job : List ℕ) : Said Exit → Type 0 where
   refused : {r : Refusal} → IsRefused job r → AnswersCheck job (told E.Refused (L.Refused r))
   printed : {p : Program} {from : ℕ} → IsJob job p from → IsAccepted p → AnswersCheck job (record { exit = E.Done; text = canonical_text p })
 
+-- the status and the text
+abbrev pub answered_by : Said Exit → Answered
+answered_by reply = record { status = number_of reply.exit; text = reply.text }
+
 -- to `seq` and to `sim`: what the job is answered that is run
 abbrev pub AnswersRun : List ℕ → Said Exit → Type 0
-AnswersRun job reply = IsAnswer job (record { status = number_of reply.exit; text = reply.text })
+AnswersRun job reply = IsAnswer job (answered_by reply)
 
 abbrev pub AnswersAsked : Asked → List ℕ → Said Exit → Type 0
 AnswersAsked A.Check job reply = AnswersCheck job reply
 AnswersAsked (A.Run way) job reply = AnswersRun job reply
 
+-- the program of the job is accepted, and declares a loop
+pub record DeclaresLoop (job : List ℕ) : Type 0 where
+  pub program : Program
+  pub from : ℕ
+  pub reads : IsJob job program from
+  pub accepted : IsAccepted program
+  pub loop : has_loop program.tasks ≡ true
+
+-- where workers do not run what is asked for
+abbrev pub not_built : Said Exit
+not_built = record { exit = E.NotBuilt; text = codes "not built\n" }
+
+-- to `run W`: what the job is answered that is run on one thread, unless its program declares a loop
+pub data AnswersThreads (job : List ℕ) : Said Exit → Type 0 where
+  as_run : {reply : Said Exit} → (DeclaresLoop job → ⊥) → AnswersRun job reply → AnswersThreads job reply
+  loops : DeclaresLoop job → AnswersThreads job not_built
+
 -- to words that ask for an answer to a job, of which there may be so many bytes; `Given` says what a job of so few is answered
 pub data AnswersJob (Given : List ℕ → Said Exit → Type 0) (job : List ℕ) : Said Exit → Type 0 where
   too_long : JOB < length job → AnswersJob Given job (told E.TooLong L.TooLong)
   within : {reply : Said Exit} → length job ≤ JOB → Given job reply → AnswersJob Given job reply
+
+-- no job of so few bytes is answered
+abbrev pub AnswersNone : List ℕ → Said Exit → Type 0
+AnswersNone job reply = ⊥
 
 -- to what the words ask for
 abbrev pub AnswersCommand : Option Command → List ℕ → Said Exit → Type 0
@@ -57,16 +83,27 @@ AnswersCommand (Some C.Check) job reply = AnswersJob AnswersCheck job reply
 AnswersCommand (Some C.Seq) job reply = AnswersJob AnswersRun job reply
 AnswersCommand (Some (C.Sim workers number)) job reply = AnswersJob AnswersRun job reply
 AnswersCommand (Some (C.Gen kind size number)) job reply = reply ≡ generated kind size number
-AnswersCommand (Some (C.Run workers)) job reply = reply ≡ told E.Usage L.Usage
-AnswersCommand (Some (C.Demo kind size number workers)) job reply = reply ≡ told E.Usage L.Usage
+AnswersCommand (Some (C.Run workers)) job reply = AnswersJob AnswersThreads job reply
+AnswersCommand (Some (C.Demo kind size number workers)) job reply = reply ≡ not_built
 AnswersCommand None job reply = reply ≡ told E.Usage L.Usage
 
 abbrev pub Answers : List (List ℕ) → List ℕ → Said Exit → Type 0
 Answers words job reply = AnswersCommand (command_of words) job reply
+
+-- what is left of the words' meaning where there are no workers: `run` and `demo` ask for nothing there
+abbrev pub plain : Option Command → Option Command
+plain (Some (C.Run workers)) = None
+plain (Some (C.Demo kind size number workers)) = None
+plain command = command
+
+-- the same without workers
+abbrev pub PlainAnswers : List (List ℕ) → List ℕ → Said Exit → Type 0
+PlainAnswers words job reply = AnswersCommand (plain (command_of words)) job reply
 
 -- the words ask for an answer to a job
 abbrev pub asks_job : Option Command → Bool
 asks_job (Some C.Check) = true
 asks_job (Some C.Seq) = true
 asks_job (Some (C.Sim workers number)) = true
+asks_job (Some (C.Run workers)) = true
 asks_job _ = false

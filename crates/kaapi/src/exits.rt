@@ -1,6 +1,6 @@
 // How a call ends.
 ghost use Rattle.std.specs.Prelude.{◌≡◌};
-ghost use Rattle.kaapi.specs.Exits.{number_of};
+ghost use Rattle.kaapi.specs.Exits.{ends_run, number_of};
 
 /// How a call ends.
 #[derive(Clone, Copy, Debug, PartialEq, Eq)]
@@ -25,6 +25,8 @@ pub enum Exit {
     TooLong,
     /// There was no memory, and nothing was written.
     NoMemory,
+    /// Workers do not run what is asked for.
+    NotBuilt,
 }
 
 impl Exit {
@@ -43,6 +45,24 @@ impl Exit {
             Exit::Limit => 8,
             Exit::TooLong => 9,
             Exit::NoMemory => 10,
+            Exit::NotBuilt => 11,
+        }
+    }
+
+    /// Whether a run came to its end, and its answer was written.
+    pub fn ends_run(self) -> bool
+        ensures { result ≡ ends_run self }
+    {
+        match self {
+            Exit::Done | Exit::Fault | Exit::Limit => true,
+            Exit::Usage
+            | Exit::ReadFault
+            | Exit::WriteFault
+            | Exit::Refused
+            | Exit::BadData
+            | Exit::TooLong
+            | Exit::NoMemory
+            | Exit::NotBuilt => false,
         }
     }
 }

@@ -1,13 +1,16 @@
 // What a job is answered, made whole before any of it is written.
-ghost use Rattle.std.specs.Prelude.{◌≡◌, ◌≤◌, ℕ, List, length, IfOk};
+ghost use Rattle.std.specs.Prelude.{◌≡◌, ◌≢◌, ◌≤◌, ◌↔◌, ℕ, List, length, IfOk, true, false};
 ghost use Rattle.kt_prog.specs.Accepted.{IsAccepted};
 ghost use Rattle.kt_prog.specs.Objects.{elements_of, inputs_of};
 ghost use Rattle.kt_prog.specs.Outcome.{outcome_of};
-ghost use Rattle.kt_prog.specs.declared.runs.Outcome.TheVariants.{Rows};
+ghost use Rattle.kt_prog.specs.declared.runs.Outcome.TheVariants.{Limit, Rows};
 ghost use Rattle.kt_open.specs.Answers.{answered_run};
-ghost use Rattle.kaapi.specs.Answers.{AnswersAsked, AnswersCheck, AnswersRun, told};
-ghost use Rattle.kaapi.specs.Exits.{number_of};
+ghost use Rattle.kt_open.specs.Unopened.{IsUnopened};
+ghost use Rattle.kaapi.specs.Answers.{AnswersAsked, AnswersCheck, AnswersRun, answered_by, told};
+ghost use Rattle.kaapi.specs.Exits.{ends_run};
 ghost use Rattle.kaapi.specs.Jobs.{IsChecked, exit_of};
+ghost use Rattle.kt_open.specs.declared.opening.Unopened.TheVariants as U;
+ghost use Rattle.kaapi.specs.declared.exits.Exit.TheVariants as E;
 
 use crate::asked::{Asked, Way};
 use crate::exits::Exit;
@@ -77,8 +80,19 @@ fn reply_to_run(alloc: Global, way: Way, job: &[u8]) -> Result<Reply, NoMemory>
 {
     match open_job(alloc, job) {
         Ok((program, input)) => run(alloc, way, &program, &input),
-        Err(Unopened::Line(line)) => reply_with(alloc, exit_of(&line), &line),
-        Err(Unopened::NoMemory) => Err(NoMemory),
+        Err(unopened) => reply_to_unopened(alloc, unopened),
+    }
+}
+
+/// The reply to a job that has no run.
+pub fn reply_to_unopened(alloc: Global, unopened: Unopened) -> Result<Reply, NoMemory>
+    ensures answers { (job : List ℕ) → IsUnopened job unopened → IfOk result (AnswersRun job) }
+    ensures unrun { IfOk result (λ reply. ends_run reply.exit ≡ false) }
+    ensures told { IfOk result (λ reply. unopened ≢ U.NoMemory) }
+{
+    match unopened {
+        Unopened::Line(line) => reply_with(alloc, exit_of(&line), &line),
+        Unopened::NoMemory => Err(NoMemory),
     }
 }
 
@@ -95,10 +109,26 @@ fn exit_of(line: &Line) -> Exit
 fn run(alloc: Global, way: Way, program: &Program, input: &[u64]) -> Result<Reply, NoMemory>
     requires accepted { IsAccepted program.now }
     requires whole { length input.now ≡ inputs_of program.now.families }
-    ensures { IfOk result (λ reply. record { status = number_of reply.exit; text = reply.text } ≡ answered_run program.now.families (outcome_of program.now input.now).outcome) }
+    ensures { IfOk result (λ reply. answered_by reply ≡ answered_run program.now.families (outcome_of program.now input.now).outcome) }
+{
+    let outcome = outcome(alloc, way, program, input)?;
+    reply_to_outcome(alloc, program, outcome)
+}
+
+/// The reply to a job whose run came to this.
+pub fn reply_to_outcome(
+    alloc: Global,
+    program: &Program,
+    outcome: Outcome,
+) -> Result<Reply, NoMemory>
+    requires accepted { IsAccepted program.now }
+    requires whole { (rows : List ℕ) → outcome ≡ Rows rows → length rows ≡ elements_of program.now.families }
+    ensures answers { IfOk result (λ reply. answered_by reply ≡ answered_run program.now.families outcome) }
+    ensures ended { IfOk result (λ reply. ends_run reply.exit ≡ true) }
+    ensures limit { IfOk result (λ reply. (reply.exit ≡ E.Limit) ↔ (outcome ≡ Limit)) }
 {
     few_objects();
-    match outcome(alloc, way, program, input)? {
+    match outcome {
         Outcome::Rows(rows) => {
             let text = rows_bytes(alloc, program, rows.as_slice())?;
             Ok(Reply::new(Exit::Done, text))

@@ -1,18 +1,22 @@
-//! Answers a job on standard input: `kaapi check`, `kaapi seq`, `kaapi sim W NUMBER`. Writes a job: `kaapi gen KIND SIZE NUMBER`.
+//! Answers a job on standard input: `kaapi check`, `kaapi seq`, `kaapi sim W NUMBER`, `kaapi run W`. Writes a job: `kaapi gen KIND SIZE NUMBER`.
 #![tactic(auto)]
 
 mod asked;
+mod crews;
 mod exits;
 mod jobs;
 mod laws;
 mod replies;
+mod sending;
+mod sources;
 #[cfg(test)]
 mod tests;
 mod top;
 
 use crate::exits::Exit;
-use crate::top::top_plain;
+use crate::top::top;
 use kt_io::{StdSink, StdSource};
+use kt_worker::NoGate;
 use std::process::ExitCode;
 use std::{env, io};
 
@@ -39,7 +43,8 @@ fn main(rt: HostRuntime) -> ExitCode {
         Ok(words) => {
             let mut source = StdSource::new(rt.reader());
             let mut sink = StdSink::new(io::writer(&rt));
-            top_plain(rt.alloc(), &words, &mut source, &mut sink).code()
+            let (exit, _) = top(&rt, rt.alloc(), &words, &mut source, &mut sink, &NoGate);
+            exit.code()
         }
         Err(status) => status,
     };

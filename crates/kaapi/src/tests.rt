@@ -7,6 +7,7 @@ use std::alloc::{AllocError, Global};
 use std::process::Abort;
 use std::test::Fail;
 
+mod crews;
 mod cut;
 mod loops;
 mod streams;
@@ -204,9 +205,9 @@ fn end_alike(rt: &impl Abort, alloc: Global, cases: &[Case]) -> Result<(), Fail>
     end_by(rt, alloc, &ways, cases)
 }
 
-#[test]
-fn runs_end_in_rows(rt: HostRuntime) -> Result<(), Fail> {
-    let cases = [
+// Programs of tasks, and the rows that they end in.
+fn in_rows() -> [Case; 13] {
+    [
         answers("seq", "main {}\ndata\n", Exit::Done, ""),
         answers("seq", COUNTER, Exit::Done, "A[0] 42\n"),
         answers("seq", WRAPS, Exit::Done, "A[0] 0\n"),
@@ -223,7 +224,6 @@ fn runs_end_in_rows(rt: HostRuntime) -> Result<(), Fail> {
         ),
         answers("seq", MOST_STEPS, Exit::Done, ""),
         answers("seq", PRODUCT, Exit::Done, PRODUCT_ROWS),
-        answers("seq", MANY, Exit::Done, "A[0] 16383\n"),
         answers("seq", DEEP, Exit::Done, "A[0] 32\n"),
         answers(
             "seq",
@@ -231,13 +231,12 @@ fn runs_end_in_rows(rt: HostRuntime) -> Result<(), Fail> {
             Exit::Done,
             "A[0] 10\nA[1] 11\nA[2] 12\nA[3] 13\n",
         ),
-    ];
-    end_alike(&rt, rt.alloc(), &cases)
+    ]
 }
 
-#[test]
-fn runs_end_in_faults_and_limits(rt: HostRuntime) -> Result<(), Fail> {
-    let cases = [
+// Programs of tasks that end in a fault.
+fn in_faults() -> [Case; 7] {
+    [
         answers("seq", ALIAS, Exit::Fault, "fault F4 main line 3\n"),
         answers("seq", FIRST_FAULT, Exit::Fault, "fault F1 1 line 2\n"),
         answers("seq", PAST_THE_END, Exit::Fault, "fault F2 1 line 2\n"),
@@ -250,9 +249,30 @@ fn runs_end_in_faults_and_limits(rt: HostRuntime) -> Result<(), Fail> {
             "fault F5 1.1.1.1.1.1.1.1.1.1.1.1.1.1.1.1.1.1.1.1.1.1.1.1.1.1.1.1.1.1.1.1 line 2\n",
         ),
         answers("seq", TOO_MANY_STEPS, Exit::Fault, "fault F6 1 line 1\n"),
+    ]
+}
+
+#[test]
+fn runs_end_in_rows(rt: HostRuntime) -> Result<(), Fail> {
+    end_alike(&rt, rt.alloc(), &in_rows())
+}
+
+#[test]
+fn runs_end_in_faults(rt: HostRuntime) -> Result<(), Fail> {
+    end_alike(&rt, rt.alloc(), &in_faults())
+}
+
+// As many tasks as there may be, and one more.
+fn at_the_limit() -> [Case; 2] {
+    [
+        answers("seq", MANY, Exit::Done, "A[0] 16383\n"),
         answers("seq", TOO_MANY, Exit::Limit, "limit\n"),
-    ];
-    end_alike(&rt, rt.alloc(), &cases)
+    ]
+}
+
+#[test]
+fn runs_end_at_the_limit(rt: HostRuntime) -> Result<(), Fail> {
+    end_alike(&rt, rt.alloc(), &at_the_limit())
 }
 
 #[test]

@@ -1,7 +1,7 @@
 use Rattle.std.proofs.Common.{refl}
 use Rattle.kaapi.specs.Answers.{generated}
 use Rattle.kt_io.specs.Ending.SendsOrLacks.{sends}
-use Rattle.kaapi.proofs.top.send_generated.Goals as goal
+use Rattle.kaapi.proofs.sending.send_generated.Goals as goal
 
 pub returns-in-Ok-clause-sent : goal.returns-in-Ok-clause-sent
 returns-in-Ok-clause-sent g c =
