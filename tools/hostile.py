@@ -14,8 +14,10 @@ import concurrent.futures, os, pathlib, subprocess, sys, tempfile
 
 TOP = pathlib.Path(__file__).resolve().parent.parent
 PROGRAM = os.environ.get("KAAPI", str(TOP / "crates/kaapi/out/kaapi"))
-WAYS = (["check"], ["seq"], ["sim", "3", "7"])
+WAYS = (["check"], ["seq"], ["sim", "3", "7"], ["run", "2"], ["run", "8"])
 READ_FAULT, WRITE_FAULT, NO_MEMORY = 3, 4, 10
+# Seconds after which a run counts as one that does not end.
+LONGEST = 60
 
 
 def run(command, job, **settings):
@@ -24,7 +26,7 @@ def run(command, job, **settings):
         env = dict(os.environ, **{name: str(value) for name, value in settings.items()})
         if settings:
             env.update(LD_PRELOAD=SHIM, MARK=str(mark.fileno()))
-        ran = subprocess.run(command, input=job, stdout=subprocess.PIPE, stderr=subprocess.PIPE, env=env, pass_fds=[mark.fileno()])
+        ran = subprocess.run(command, input=job, stdout=subprocess.PIPE, stderr=subprocess.PIPE, env=env, pass_fds=[mark.fileno()], timeout=LONGEST)
         return ran.returncode, ran.stdout, os.fstat(mark.fileno()).st_size > 0
 
 
