@@ -6,7 +6,7 @@
     tools/hostile.py cut ORACLE [JOB..]      each job is cut off at every byte
 
 The jobs are those of examples/ where none are given, and the program is crates/kaapi/out/kaapi, or that of the variable KAAPI.
-Each is done by every way to answer a job. ORACLE is another program that answers as kaapi does, given the same words and the
+Each is done by every way to answer a job, and cut off by those on one thread. ORACLE is another program that answers as kaapi does, given the same words and the
 same input; of a Python file it is run by Python. One line a job and way tells what came out; the last line is
 `N passed, M failed`, and the status is 0 where none failed. `memory` and `streams` put tools/hostile.c before the C library, so
 they need gcc and a program that is linked with that library. Outside the gate, and no part of what is proved."""
@@ -14,7 +14,8 @@ import concurrent.futures, os, pathlib, subprocess, sys, tempfile
 
 TOP = pathlib.Path(__file__).resolve().parent.parent
 PROGRAM = os.environ.get("KAAPI", str(TOP / "crates/kaapi/out/kaapi"))
-WAYS = (["check"], ["seq"], ["sim", "3", "7"], ["run", "2"], ["run", "8"])
+ALONE = (["check"], ["seq"], ["sim", "3", "7"])
+WAYS = (*ALONE, ["run", "2"], ["run", "8"])
 READ_FAULT, WRITE_FAULT, NO_MEMORY = 3, 4, 10
 # Seconds after which a run counts as one that does not end.
 LONGEST = 60
@@ -85,14 +86,14 @@ def streams(count, name, words, job):
 
 def cut(count, name, oracle, job):
     def both(length):
-        found = [run([PROGRAM, *words], job[:length])[:2] for words in WAYS]
-        check, seq = (run([*oracle, *words], job[:length])[:2] for words in WAYS[:2])
+        found = [run([PROGRAM, *words], job[:length])[:2] for words in ALONE]
+        check, seq = (run([*oracle, *words], job[:length])[:2] for words in ALONE[:2])
         return length, found, [check, seq, seq]
 
     statuses = {}
     with concurrent.futures.ThreadPoolExecutor(os.cpu_count()) as pool:
         for length, found, wanted in pool.map(both, range(len(job) + 1)):
-            for words, one, other in zip(WAYS, found, wanted):
+            for words, one, other in zip(ALONE, found, wanted):
                 count.judge(one == other, f"{name} {' '.join(words)}, {length} bytes, not {other}", one)
                 statuses[one[0]] = statuses.get(one[0], 0) + 1
     told = ", ".join(f"{number} times status {status}" for status, number in sorted(statuses.items()))
