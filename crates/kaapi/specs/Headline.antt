@@ -4,6 +4,8 @@
 -- of memory, its status and the written bytes are those of the job's reference run; and where that run keeps the limits, each of its tasks was
 -- executed exactly once, and every read found the last value written before it in reference order, cumulative writes folded in.
 --
+-- But for this: workers run no program that declares a loop, and no `demo`; these are answered `not built`, which is one of the answers.
+--
 -- No sentence below names the order of steps: the call keeps them in whatever order it met.
 use Rattle.std.specs.Prelude.{◌≡◌, ◌≢◌, ◌↔◌, ℕ, List, true, false, Option, Some, None}
 use Rattle.kt_io.specs.Ending.{EndsWith}
@@ -46,7 +48,7 @@ RecordedFor (Some (C.Run workers)) job exit handed = Recorded job workers exit h
 RecordedFor _ job exit handed = handed ≡ None
 
 pub record Headline (words : List (List ℕ)) (job : List ℕ) (source sink : Over) (exit : Exit) (handed : Option Record) : Type 0 where
-  -- the status and the written bytes are the answer to the words and the job, which is that of its reference run where it has one;
+  -- the status and the written bytes are the answer to the words and the job, to a run that of the reference run, a refusal or `not built`;
   -- or a stream failed in this call, or memory was wanting
   pub answered : EndsWith faults (Answers words job) source sink exit
   -- the record of a run by workers says that each task was executed exactly once, with the reads of the reference run
