@@ -2,7 +2,7 @@
 use Rattle.std.proofs.Common.{◌≡◌, ◌≤◌, ◌<◌, ◌+◌, ◌*◌, ◌-◌, ◌/◌, ◌%◌, ℕ, zero, suc, min, List, [], ◌∷◌, length, All, slice_index_or, cond, ◌&&◌, nat_lt, nat_le, fold, true, false, inl, inr, inl, inr, refl, sym, ap, subst, ◌∙◌, arith}
 use Rattle.std.proofs.Math.Nat.{div-add-mod}
 use Rattle.std.proofs.lemmas.List.Kept.{AllPairs-cons}
-use Rattle.kt_split.specs.declared.intervals.Interval.{Interval}
+use Rattle.kt_words.specs.declared.pairs.Pair.{Pair}
 use Rattle.kt_split.specs.Intervals.{size}
 use Rattle.kt_split.specs.Splits.{IsKept, Fill, AreEven, IsCut}
 use Rattle.kt_split.specs.Laws.{OneCut, CutsKeepPositions, CutsAreEven, SharesAreEven}
@@ -48,12 +48,12 @@ kept_once n parts c d one other = omega (arith, one.least d other.enough, other.
 
 -- PIECES THAT LIE SIDE BY SIDE
 
-fills_up : (pieces : List Interval) (from to : ℕ) → Fill from pieces to → from ≤ to
+fills_up : (pieces : List Pair) (from to : ℕ) → Fill from pieces to → from ≤ to
 fills_up [] from to fill = omega (arith, fill)
 fills_up (x ∷ pieces) from to fill = omega (arith, fill.0, fill.1, fills_up pieces x.high to fill.2)
 
 -- pieces of at most so many positions hold at most so many times as many
-fills_at_most : (s : ℕ) (pieces : List Interval) (from to : ℕ) → Fill from pieces to → All (λ x. size x ≤ s) pieces
+fills_at_most : (s : ℕ) (pieces : List Pair) (from to : ℕ) → Fill from pieces to → All (λ x. size x ≤ s) pieces
     → to ≤ from + length pieces * s
 fills_at_most s [] from to fill most = omega (arith, fill)
 fills_at_most s (x ∷ pieces) from to fill most =
@@ -65,7 +65,7 @@ fills_at_most s (x ∷ pieces) from to fill most =
     sum n h k = omega (arith, h, k)
 
 -- and of at least so many but one
-fills_at_least : (s : ℕ) (pieces : List Interval) (from to : ℕ) → Fill from pieces to → All (λ x. s ≤ size x + 1) pieces
+fills_at_least : (s : ℕ) (pieces : List Pair) (from to : ℕ) → Fill from pieces to → All (λ x. s ≤ size x + 1) pieces
     → from + length pieces * s ≤ to + length pieces
 fills_at_least s [] from to fill least = omega (arith, fill)
 fills_at_least s (x ∷ pieces) from to fill least =
@@ -81,7 +81,7 @@ record IsFirst (n total s : ℕ) : Type 0 where
   most : total ≤ suc n * s
   least : suc n * s ≤ total + n
 
-is_first : (x : Interval) (pieces : List Interval) (from to : ℕ) → Fill from (x ∷ pieces) to → AreEven (x ∷ pieces)
+is_first : (x : Pair) (pieces : List Pair) (from to : ℕ) → Fill from (x ∷ pieces) to → AreEven (x ∷ pieces)
     → IsFirst (length pieces) (to - from) (size x)
 is_first x pieces from to fill even =
     let most : to ≤ x.high + length pieces * size x =
@@ -106,7 +106,7 @@ first_most n total s t one other = by_order (nat_le s t) refl
         absurd (omega (arith, product, one.least, other.most))
 
 -- even pieces, as many of as many positions, are the same
-pub same_pieces : (pieces others : List Interval) (from to : ℕ) → length pieces ≡ length others → Fill from pieces to → Fill from others to
+pub same_pieces : (pieces others : List Pair) (from to : ℕ) → length pieces ≡ length others → Fill from pieces to → Fill from others to
     → AreEven pieces → AreEven others → pieces ≡ others
 same_pieces [] [] from to many one other even evens = refl
 same_pieces [] (y ∷ others) from to many one other even evens = absurd (omega (arith, many))
@@ -148,8 +148,8 @@ joined q a b c less more = grind (arith, less, more)
 none_in : (q a : ℕ) → in_span q a a ≡ 0
 none_in q a = grind arith
 
-counted : (q : ℕ) (pieces : List Interval) (from to n : ℕ) → Fill from pieces to
-    → fold (λ (k : ℕ) (x : Interval). k + in_span q x.low x.high) n pieces ≡ n + in_span q from to
+counted : (q : ℕ) (pieces : List Pair) (from to n : ℕ) → Fill from pieces to
+    → fold (λ (k : ℕ) (x : Pair). k + in_span q x.low x.high) n pieces ≡ n + in_span q from to
 counted q [] from to n fill = omega (arith, subst (λ k. in_span q from k ≡ 0) fill (none_in q from))
 counted q (x ∷ pieces) from to n fill =
     let rest = counted q pieces x.high to (n + in_span q x.low x.high) fill.2 in
@@ -250,7 +250,7 @@ shared parts d rest m many given = by_order (nat_le parts rest) refl
             absurd (omega (arith, more, low, less))
 
 -- the pieces are those that are dealt, of so many positions each
-is_dealt : (pieces : List Interval) (from to m : ℕ) → 1 ≤ m → m ≤ to - from → length pieces ≡ m → Fill from pieces to → AreEven pieces
+is_dealt : (pieces : List Pair) (from to m : ℕ) → 1 ≤ m → m ≤ to - from → length pieces ≡ m → Fill from pieces to → AreEven pieces
     → pieces ≡ dealt from ((to - from) / m) m ((to - from) % m)
 is_dealt pieces from to m some few many fill even =
     let rest = to - from in
@@ -305,7 +305,7 @@ cuts_are_even x parts left pieces long some cut = shares (kept_least (size x) pa
 
 -- WHAT IS CUT BY NUMBERS
 
-pub dealt_is_cut : (low high parts kept count : ℕ) (pieces : List Interval) → low + 2 ≤ high → 1 ≤ parts → IsKept (high - low) parts kept
+pub dealt_is_cut : (low high parts kept count : ℕ) (pieces : List Pair) → low + 2 ≤ high → 1 ≤ parts → IsKept (high - low) parts kept
     → count ≡ min parts (high - low - kept)
     → pieces ≡ dealt (low + kept) ((high - low - kept) / count) count ((high - low - kept) % count)
     → IsCut (record { low = low; high = high }) parts (record { low = low; high = low + kept }) pieces

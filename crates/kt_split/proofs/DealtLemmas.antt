@@ -1,7 +1,7 @@
 -- Pieces that are dealt lie side by side, are even, and are as many as was said.
 use Rattle.std.proofs.Common.{◌≡◌, ◌≤◌, ◌<◌, ◌+◌, ◌*◌, ◌-◌, ◌/◌, ◌%◌, ◌⊎◌, ℕ, zero, suc, min, ◌∷◌, length, slice_index_or, inl, inr, refl, ap, subst, arith}
 use Rattle.std.proofs.Math.Nat.{div-add-mod}
-use Rattle.kt_split.specs.declared.intervals.Interval.{Interval}
+use Rattle.kt_words.specs.declared.pairs.Pair.{Pair}
 use Rattle.kt_split.specs.Intervals.{size}
 use Rattle.kt_split.specs.Splits.{Fill, AreEven}
 use Rattle.kt_split.specs.Dealt.{dealt}
@@ -22,7 +22,7 @@ dealt_many (suc n) from each (suc k) = ap suc (dealt_many n (from + each + 1) ea
 abbrev pub SizeAt : ℕ → ℕ → ℕ → ℕ → Type 0
 SizeAt each longer k s = ((k < longer) × (s ≡ each + 1)) ⊎ ((longer ≤ k) × (s ≡ each))
 
-pub size_at : (n from each longer k : ℕ) (d : Interval) → k < n → SizeAt each longer k (size (slice_index_or (dealt from each n longer) k d))
+pub size_at : (n from each longer k : ℕ) (d : Pair) → k < n → SizeAt each longer k (size (slice_index_or (dealt from each n longer) k d))
 size_at zero from each longer k d less = absurd (omega (arith, less))
 size_at (suc n) from each zero zero d less = inr (omega arith, omega arith)
 size_at (suc n) from each zero (suc k) d less = next (size_at n (from + each) each 0 k d (omega (arith, less)))

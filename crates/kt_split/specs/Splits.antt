@@ -1,6 +1,6 @@
 -- How an interval of positions is split: the victim keeps its first positions, and thieves get the rest in pieces.
 use Rattle.std.specs.Prelude.{◌≡◌, ℕ, ◌+◌, ◌*◌, ◌-◌, ◌<◌, ◌≤◌, min, List, [], ◌∷◌, length, AllPairs}
-use Rattle.kt_split.specs.declared.intervals.Interval.{Interval}
+use Rattle.kt_words.specs.declared.pairs.Pair.{Pair}
 use Rattle.kt_split.specs.declared.splits.Division.{Division}
 use Rattle.kt_split.specs.declared.splits.Division.TheVariants as D
 use Rattle.kt_split.specs.Intervals.{size}
@@ -11,16 +11,16 @@ pub record IsKept (n parts kept : ℕ) : Type 0 where
   pub least : (c : ℕ) → n ≤ c * (parts + 1) → kept ≤ c
 
 -- the pieces lie side by side in rising order, from one position up to another, and none is empty
-abbrev pub Fill : ℕ → List Interval → ℕ → Type 0
+abbrev pub Fill : ℕ → List Pair → ℕ → Type 0
 Fill from [] to = from ≡ to
 Fill from (x ∷ pieces) to = (x.low ≡ from) × (x.low < x.high) × Fill x.high pieces to
 
 -- no later one is longer, and none is shorter by more than one
-abbrev pub AreEven : List Interval → Type 0
+abbrev pub AreEven : List Pair → Type 0
 AreEven pieces = AllPairs (λ x y. (size y ≤ size x) × (size x ≤ size y + 1)) pieces
 
 -- what is left to the victim, and the pieces: as many as there are parts, or one for each position where there are fewer of these
-pub record IsCut (x : Interval) (parts : ℕ) (left : Interval) (pieces : List Interval) : Type 0 where
+pub record IsCut (x : Pair) (parts : ℕ) (left : Pair) (pieces : List Pair) : Type 0 where
   pub first : left.low ≡ x.low
   pub kept : IsKept (size x) parts (size left)
   pub many : length pieces ≡ min parts (size x - size left)
@@ -28,6 +28,6 @@ pub record IsCut (x : Interval) (parts : ℕ) (left : Interval) (pieces : List I
   pub even : AreEven pieces
 
 -- an interval of fewer than two positions stays whole
-abbrev pub IsDivision : Interval → ℕ → Division → Type 0
+abbrev pub IsDivision : Pair → ℕ → Division → Type 0
 IsDivision x parts (D.Short n) = (n ≡ size x) × (n < 2)
 IsDivision x parts (D.Cut c) = (2 ≤ size x) × IsCut x parts c.left c.pieces.items

@@ -3,35 +3,34 @@ ghost use Rattle.std.specs.Prelude.{◌≡◌, ◌≤◌, ◌↔◌, IsNone, IfS
 ghost use Rattle.kt_split.specs.Intervals.{size};
 ghost use Rattle.kt_split.specs.Chunks.{IsChunk};
 
-use crate::Interval;
+use crate::intervals::{is_empty, len};
+use kt_words::Pair;
 
 /// The first positions of an interval, and those behind them.
 #[derive(Clone, Copy, Debug, PartialEq, Eq)]
 pub struct Chunk {
-    pub taken: Interval,
-    pub left: Interval,
+    pub taken: Pair,
+    pub left: Pair,
 }
 
-impl Interval {
-    /// Takes at most `grain` positions from the front; none where there is no position.
-    pub fn chunk(self, grain: u32) -> Option<Chunk>
-        requires { 1 ≤ grain }
-        ensures empty { IsNone result ↔ (size self ≡ 0) }
-        ensures taken { IfSome result (IsChunk self grain) }
-    {
-        if self.is_empty() {
-            return None;
-        }
-        let middle = self.low + grain.min(self.len());
-        Some(Chunk {
-            taken: Interval {
-                low: self.low,
-                high: middle,
-            },
-            left: Interval {
-                low: middle,
-                high: self.high,
-            },
-        })
+/// Takes at most `grain` positions from the front of an interval; none where there is no position.
+pub fn take_chunk(interval: Pair, grain: u32) -> Option<Chunk>
+    requires { 1 ≤ grain }
+    ensures empty { IsNone result ↔ (size interval ≡ 0) }
+    ensures taken { IfSome result (IsChunk interval grain) }
+{
+    if is_empty(interval) {
+        return None;
     }
+    let middle = interval.low + grain.min(len(interval));
+    Some(Chunk {
+        taken: Pair {
+            low: interval.low,
+            high: middle,
+        },
+        left: Pair {
+            low: middle,
+            high: interval.high,
+        },
+    })
 }

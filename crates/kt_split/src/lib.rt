@@ -8,6 +8,6 @@ mod splits;
 #[cfg(test)]
 mod tests;
 
-pub use chunks::Chunk;
-pub use intervals::Interval;
-pub use splits::{Cut, Division, PARTS};
+pub use chunks::{Chunk, take_chunk};
+pub use intervals::{is_empty, len};
+pub use splits::{Cut, Division, PARTS, split};

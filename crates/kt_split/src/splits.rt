@@ -3,9 +3,10 @@ ghost use Rattle.std.specs.Prelude.{◌≡◌, ◌≤◌, ◌<◌, ◌+◌, ◌-
 ghost use Rattle.kt_split.specs.Splits.{IsCut, IsDivision, IsKept};
 ghost use Rattle.kt_split.specs.Dealt.{dealt};
 
-use crate::Interval;
+use crate::intervals::len;
 use arrayvec::ArrayVec;
 use kt_law::WORKERS;
+use kt_words::Pair;
 
 /// Parts of one split at most: every worker may be a thief.
 pub const PARTS: usize = WORKERS as usize;
@@ -22,24 +23,22 @@ pub enum Division {
 #[derive(Debug, Drop)]
 pub struct Cut {
     /// What the victim keeps.
-    pub left: Interval,
+    pub left: Pair,
     /// What thieves get, the piece that lies lowest first.
-    pub pieces: ArrayVec<Interval, PARTS>,
+    pub pieces: ArrayVec<Pair, PARTS>,
 }
 
-impl Interval {
-    /// Splits the interval for so many thieves.
-    pub fn split(self, parts: u32) -> Division
-        requires some { 1 ≤ parts }
-        requires few { parts ≤ PARTS }
-        ensures { IsDivision self parts result }
-    {
-        let length = self.len();
-        if length < 2 {
-            Division::Short(length)
-        } else {
-            Division::Cut(cut_between(self.low, self.high, parts))
-        }
+/// Splits an interval for so many thieves.
+pub fn split(interval: Pair, parts: u32) -> Division
+    requires some { 1 ≤ parts }
+    requires few { parts ≤ PARTS }
+    ensures { IsDivision interval parts result }
+{
+    let length = len(interval);
+    if length < 2 {
+        Division::Short(length)
+    } else {
+        Division::Cut(cut_between(interval.low, interval.high, parts))
     }
 }
 
@@ -56,7 +55,7 @@ fn cut_between(low: u32, high: u32, parts: u32) -> Cut
     let count = parts.min(rest);
     let middle = low + kept;
     Cut {
-        left: Interval { low, high: middle },
+        left: Pair { low, high: middle },
         pieces: deal(middle, rest / count, rest % count, count),
     }
 }
@@ -70,7 +69,7 @@ fn kept(length: u32, parts: u32) -> u32
 }
 
 /// So many pieces from a position on, of which the first so many have one position more than `each`.
-fn deal(from: u32, each: u32, longer: u32, count: u32) -> ArrayVec<Interval, PARTS>
+fn deal(from: u32, each: u32, longer: u32, count: u32) -> ArrayVec<Pair, PARTS>
     requires few { count ≤ PARTS }
     requires part { longer ≤ count }
     requires fits { from + (count * each + longer) < 2 ^ 32 }
@@ -84,7 +83,7 @@ fn deal(from: u32, each: u32, longer: u32, count: u32) -> ArrayVec<Interval, PAR
         let extra = more.min(1);
         at += each + extra;
         more -= extra;
-        pieces.push(Interval { low, high: at });
+        pieces.push(Pair { low, high: at });
     }
     pieces
 }

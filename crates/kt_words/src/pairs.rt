@@ -8,7 +8,7 @@ use crate::bits::{joined, split};
 const HALF_BITS: u32 = 32;
 
 /// Two numbers in one word, such as the ends of an interval. Either may be the larger.
-#[derive(Clone, Copy, Debug, PartialEq, Eq)]
+#[derive(Clone, Copy, Debug, Default, PartialEq, Eq)]
 pub struct Pair {
     /// The number in the lower half.
     pub low: u32,

@@ -1,10 +1,10 @@
 use Rattle.std.proofs.Common.{◌≡◌, ◌≤◌, ◌<◌, ◌+◌, ◌-◌, ◌*◌, ◌++◌, ◌∷◌, [], ℕ, suc, min, List, sym, ap, ◌∙◌, arith, append_assoc}
-use Rattle.kt_split.specs.declared.intervals.Interval.{Interval}
+use Rattle.kt_words.specs.declared.pairs.Pair.{Pair}
 use Rattle.kt_split.specs.Dealt.{dealt}
 use Rattle.kt_split.proofs.DealtLemmas.{dealt_step}
 use Rattle.kt_split.proofs.splits.deal.Goals as goal
 
-one_more : (items items' all : List Interval) (at each count index more extra : ℕ) → index < count → extra ≡ min more 1 → more ≤ count - index
+one_more : (items items' all : List Pair) (at each count index more extra : ℕ) → index < count → extra ≡ min more 1 → more ≤ count - index
     → items' ≡ items ++ record { low = at; high = at + (each + extra) } ∷ []
     → items ++ dealt at each (count - index) more ≡ all
     → items' ++ dealt (at + (each + extra)) each (count - (index + 1)) (more - extra) ≡ all
