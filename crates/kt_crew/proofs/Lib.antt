@@ -1,4 +1,5 @@
 pub mod Crossing
 pub mod Leasts
+pub mod Loopless
 pub mod Together
 pub mod Ending

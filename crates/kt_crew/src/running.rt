@@ -7,7 +7,7 @@ ghost use Rattle.kt_prog.specs.Objects.{elements_of, inputs_of};
 ghost use Rattle.kt_prog.specs.Outcome.{outcome_of};
 ghost use Rattle.kt_prog.specs.declared.runs.Outcome.TheVariants.{Limit, Rows};
 ghost use Rattle.kt_rule.specs.declared.views.Setup.{Setup};
-ghost use Rattle.kt_pool.specs.Closing.{IsExact, joined_view, limit_of, workers_of};
+ghost use Rattle.kt_pool.specs.Exact.{IsExact, joined_view, limit_of, workers_of};
 ghost use Rattle.kt_pool.specs.Seats.{setup_of};
 ghost use Rattle.kt_worker.specs.Programs.{IsRunnable};
 ghost use Rattle.kt_crew.specs.Crews.{AreDone, AreJobs, AreReady, IsDoneBy, IsJobOf, IsRun, seats_back, seats_in};

@@ -4,5 +4,7 @@ mod Rows
 mod Dealing
 mod Gathering
 mod Paths
+mod Named
+mod AsReference
 mod AtEnd
 mod Together

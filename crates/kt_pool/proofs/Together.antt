@@ -61,8 +61,10 @@ taken_list f joins v (s ∷ seats) =
     ∙ append_assoc (f v) (f s.token.me.0) (flat_map (λ (x : Seat). f x.token.me.0) seats))
 
 pub is_of_all : (seats : List Seat) → IsOfAll (all_together seats) seats
-is_of_all [] = record { claimed = refl; ran = refl }
+is_of_all [] = record { claimed = refl; ran = refl; taken = refl; retired = refl }
 is_of_all (s ∷ seats) = record {
   claimed = taken_list (λ (v : View). v.tasks.claimed) (λ v w. refl) s.token.me.0 seats;
   ran = taken_list (λ (v : View). v.tasks.ran) (λ v w. refl) s.token.me.0 seats;
+  taken = taken_list (λ (v : View). v.loops.taken) (λ v w. refl) s.token.me.0 seats;
+  retired = taken_list (λ (v : View). v.loops.retired) (λ v w. refl) s.token.me.0 seats;
 }

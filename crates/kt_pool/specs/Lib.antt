@@ -1,4 +1,5 @@
 pub mod Openings
 pub mod Seats
+pub mod Exact
 pub mod Closing
 pub mod Laws

@@ -16,7 +16,7 @@ pub struct Closed {
     pub rows: Vec<u64>,
     /// How many task numbers were drawn, that of `main` among them.
     pub tasks: u32,
-    /// How many positions of loops were drawn: 0, since no call draws one.
+    /// How many positions of loops were drawn.
     pub indexes: u32,
     /// Whether the run was stopped, since a count went over its limit.
     pub limit: bool,
@@ -34,7 +34,8 @@ pub struct Record {
 impl Closed {
     ghost use Rattle.kt_rule.specs.Records.{layout_of};
     ghost use Rattle.kt_rule.specs.declared.views.Setup.{Setup};
-    ghost use Rattle.kt_pool.specs.Closing.{Closes, joined_view, limit_of, workers_of};
+    ghost use Rattle.kt_pool.specs.Closing.{Closes};
+    ghost use Rattle.kt_pool.specs.Exact.{joined_view, limit_of, workers_of};
 
     /// Reads the words of a table to which no seat is left but this one. There is room for the rows.
     pub(crate) fn of(
@@ -57,13 +58,14 @@ impl Closed {
         let words = table.close_with(token);
         read_rows(&words, &layout, &mut rows);
         let tasks = words.word(layout.tasks_drawn()) as u32;
+        let indexes = words.word(layout.positions_drawn()) as u32;
         let stop = words.word(layout.stop());
         let limit = stop == 1;
         words.free();
         let closed = Closed {
             rows,
             tasks,
-            indexes: 0,
+            indexes,
             limit,
         };
         let record = Record {

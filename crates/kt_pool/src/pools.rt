@@ -40,7 +40,8 @@ impl Pool {
     ghost use Rattle.kt_rule.specs.declared.views.Setup.{Setup};
     ghost use Rattle.kt_words.specs.Places.{total_of};
     ghost use Rattle.kt_pool.specs.Seats.{AreSeatsOf, HaveNotStepped, all_together, run_table, setup_of};
-    ghost use Rattle.kt_pool.specs.Closing.{Closes, IsOfAll, IsReferenceRun, KnowsMain, Limits, SomeSeat, joined_view, limit_of, workers_of};
+    ghost use Rattle.kt_pool.specs.Closing.{Closes, IsOfAll, IsReferenceRun, KnowsMain, Limits, SomeSeat};
+    ghost use Rattle.kt_pool.specs.Exact.{joined_view, limit_of, workers_of};
 
     /// A pool for so many workers on this program and input, and the seats of the workers in their order. `main` waits for worker 0.
     pub fn new(

@@ -13,6 +13,7 @@ use Rattle.kt_words.specs.declared.posts.Post.TheVariants as P
 use Rattle.kt_rule.specs.declared.views.Promise.{Promise}
 use Rattle.kt_rule.specs.declared.views.Wrote.{Wrote}
 use Rattle.kt_rule.specs.declared.views.Desk.{Desk}
+use Rattle.kt_rule.specs.declared.views.LoopHands.{LoopHands}
 use Rattle.kt_rule.specs.declared.views.View.{View}
 use Rattle.kt_rule.specs.Lists.{In}
 use Rattle.kt_rule.specs.Lies.{Lies}
@@ -174,10 +175,10 @@ module _ (l : Layout) (lies : Lies) (ws : List ℕ) (views : List View) (a : Ask
       | no m ↦ post_else i low m ∙ a.unasked i (omega arith) low
     ]
 
-    -- where neither the old post nor the new one gives a task, and only what the seat knows of requests changes
+    -- where neither the old post nor the new one gives a task, and only what the seat knows of requests and has of loops changes
     pub asked_post : IsPost o → ((b : ℕ) → word_at l ws (worker_word k post) ≢ packed_post (P.Task b)) → ((b : ℕ) → o ≢ P.Task b)
-        → (d : Desk) → Desked l ws' id d → Asked l lies ws' (set views id (record v { desk = d }))
-    asked_post fits_o not_task no_task d mine = record {
+        → (d : Desk) (hands : LoopHands) → Desked l ws' id d → Asked l lies ws' (set views id (record v { desk = d; loops = hands }))
+    asked_post fits_o not_task no_task d hands mine = record {
       posts = posts_now fits_o;
       leads = leads_now;
       tasks = λ i b low e. elim (ℕ_discrete i k) [
@@ -186,11 +187,11 @@ module _ (l : Layout) (lies : Lies) (ws : List ℕ) (views : List View) (a : Ask
       ];
       posted = λ p t i e stage. let h = a.posted p t i e stage in
           (h.0, post_else i h.0 (λ c. not_task t.berth.at (was_there i (packed_post (P.Task t.berth.at)) c h.1)) ∙ h.1);
-      promised = tally_step promised_in is_promised lies views id v a.promised at (record v { desk = d }) lies (λ p. refl);
-      promises = each_view (λ i x. (m : Promise) → In m x.tasks.promised → IsPromised lies m) views id (record v { desk = d })
+      promised = tally_step promised_in is_promised lies views id v a.promised at (record v { desk = d; loops = hands }) lies (λ p. refl);
+      promises = each_view (λ i x. (m : Promise) → In m x.tasks.promised → IsPromised lies m) views id (record v { desk = d; loops = hands })
           (a.promises id v at) (λ i x ne e. a.promises i x e);
-      desks = desks_now (record v { desk = d }) mine;
-      unasked = unasked_now (record v { desk = d });
+      desks = desks_now (record v { desk = d; loops = hands }) mine;
+      unasked = unasked_now (record v { desk = d; loops = hands });
     }
 
   -- THE REQUEST WORD of a worker becomes n, where no other seat leads the requests at it

@@ -9,6 +9,7 @@ use Rattle.kt_words.specs.declared.posts.Post.{Post}
 use Rattle.kt_words.specs.declared.posts.Post.TheVariants as P
 use Rattle.kt_rule.specs.declared.views.Setup.{Setup}
 use Rattle.kt_rule.specs.declared.views.Spot.{Spot}
+use Rattle.kt_rule.specs.declared.views.Share.{Share}
 use Rattle.kt_rule.specs.declared.views.View.{View}
 use Rattle.kt_rule.specs.Lies.{Lie, Lies, Given, Posted}
 use Rattle.kt_rule.specs.Records.{layout_of, word_at}
@@ -16,10 +17,10 @@ use Rattle.kt_rule.specs.Rule.{Slots, Facts}
 use Rattle.kt_steps.specs.CoreMoves.{Stays}
 use Rattle.kt_steps.specs.Laws.{Enters}
 use Rattle.kt_steps.proofs.Entering.{nothing_moves, stays_still}
-use Rattle.kt_posts.specs.Desks.{is_answer, posts, sees, gets_piece, freed, takes_task, leads_now, holds_one}
+use Rattle.kt_posts.specs.Desks.{is_answer, posts, sees, gets_piece, freed, takes_task, takes_piece, leads_now, holds_one}
 use Rattle.kt_posts.specs.Told.{Took}
 use Rattle.kt_posts.specs.Laws.{after_post, after_request, after_look, PostStays, LeadStays, BusyStays, PostLoadStays, AnswerLoadStays, HoldStays, LookStays, FailedStays, TaskStays, WriteStays, PieceStays, TakeStays, WithdrawStays, ReleaseStays}
-use Rattle.kt_posts.proofs.PieceWords.{none_in_hand}
+use Rattle.kt_posts.proofs.PieceWords.{piece_of}
 use Rattle.kt_posts.proofs.PostWords.{is_answered}
 use Rattle.kt_posts.proofs.Desking.{elements_stay}
 use Rattle.kt_posts.proofs.ThiefSteps as thief
@@ -96,7 +97,7 @@ task_stays j s (lies, f) id v (at, live) m m_in k_in =
       (_, g),
       stays_still j lies s _ f m.spot.path t (leader.is j lies s f id v at live m.thief k_in m m_in refl)
           (record t { stage = Posted m.thief })
-          refl g (leader.task_same j lies s f id v at live m.thief k_in m m_in refl)
+          refl refl g (leader.task_same j lies s f id v at live m.thief k_in m m_in refl)
           (elements_stay j lies s f m.thief post (leader.thief_less j lies s f id v at live m.thief k_in)
           (packed_post (P.Task m.spot.berth.at))),
     )
@@ -109,7 +110,10 @@ write_stays j s (lies, f) id v (at, live) k word k_in =
     )
 
 pub piece_stays : PieceStays
-piece_stays j s (lies, f) id v (at, live) e x e_in x_in is fits_o = absurd (none_in_hand j lies s f id v at x x_in)
+piece_stays j s (lies, f) id v (at, live) e x e_in x_in is fits_o =
+    let w = (f.asked.desks id v at live).wrote e e_in in
+    post_enters j lies s f id _ e.thief (leader.thief_less j lies s f id v at live e.thief w.0) (P.Piece x.spot.berth.at)
+    (leader.gives_piece_it j lies s f id v at live e.thief w.0 x x_in (w.1 ∙ is) fits_o)
 
 pub take_stays : TakeStays
 take_stays j s (lies, f) id v (at, live) saw =
@@ -124,18 +128,32 @@ take_stays j s (lies, f) id v (at, live) saw =
     )
   where
     frees : (o : Post) → word_at (layout_of j) s.words (worker_word id post) ≡ packed_post o → ((y : ℕ) → o ≢ P.Held y)
-        → ((b : ℕ) → o ≢ P.Task b) → Enters j Stays s (after_post j s v.worker P.Idle id (freed v))
-    frees o there_is not_held no_task = at_own j lies s f id v at live P.Idle (freed v)
+        → ((b : ℕ) → o ≢ P.Task b) → piece_of o ≡ 0 → Enters j Stays s (after_post j s v.worker P.Idle id (freed v))
+    frees o there_is not_held no_task no_piece = at_own j lies s f id v at live P.Idle (freed v)
         (post_enters j lies s f id (freed v) id (thief.seat_less j lies s f id v at live) P.Idle
-        (thief.frees_it j lies s f id v at live o there_is not_held no_task v.desk.word))
+        (thief.frees_it j lies s f id v at live o there_is not_held no_task no_piece v.desk.word))
 
     go : (o : Post) → is_answer o ≡ true → word_at (layout_of j) s.words (worker_word id post) ≡ packed_post o
         → (w : View) × Took o v w × Enters j Stays s (after_post j s v.worker P.Idle id w)
     go P.Idle is there_is = absurd (cc is)
     go (P.Posted x) is there_is = absurd (cc is)
     go (P.Held x) is there_is = absurd (cc is)
-    go P.Failed is there_is = (freed v, refl, frees P.Failed there_is (λ y e. cc) (λ b e. cc))
-    go (P.Piece a) is there_is = (freed v, refl, frees (P.Piece a) there_is (λ y e. cc) (λ b e. cc))
+    go P.Failed is there_is = (freed v, refl, frees P.Failed there_is (λ y e. cc) (λ b e. cc) refl)
+    go (P.Piece a) is there_is =
+        let x : Share = thief.taken_piece j lies s f id v at live a there_is in (
+          freed (takes_piece v x),
+          (
+            x,
+            (thief.piece_is j lies s f id v at live a there_is).at,
+            thief.piece_fits j lies s f id v at live a there_is,
+            thief.piece_got j lies s f id v at live a there_is,
+            refl,
+            thief.piece_in_region j lies s f id v at live a there_is,
+          ),
+          at_own j lies s f id v at live P.Idle (freed (takes_piece v x))
+              (post_enters j lies s f id (freed (takes_piece v x)) id (thief.seat_less j lies s f id v at live) P.Idle
+              (thief.takes_piece_it j lies s f id v at live a there_is)),
+        )
     go (P.Task b) is there_is =
         let g = thief.takes_it j lies s f id v at live b there_is in
         let m : Spot = thief.taken j lies s f id v at live b there_is in
@@ -145,7 +163,7 @@ take_stays j s (lies, f) id v (at, live) saw =
           at_own j lies s f id v at live P.Idle (freed (takes_task v m)) (
             (_, g),
             stays_still j lies s _ f m.path t (thief.is j lies s f id v at live b there_is) (record t { stage = Given id })
-                refl g (thief.task_same j lies s f id v at live b there_is)
+                refl refl g (thief.task_same j lies s f id v at live b there_is)
                 (elements_stay j lies s f id post (thief.seat_less j lies s f id v at live) (packed_post P.Idle)),
           ),
         )
@@ -155,7 +173,7 @@ withdraw_stays j s (lies, f) id v (at, live) victim word =
     at_own j lies s f id v at live P.Idle (freed (sees v (packed_post (P.Posted victim)) false))
     (post_enters j lies s f id _ id (thief.seat_less j lies s f id v at live) P.Idle
     (thief.frees_it j lies s f id v at live (P.Posted victim) (own_word j lies s f id v at live (packed_post (P.Posted victim)) word)
-    (λ y e. cc) (λ b e. cc) (packed_post (P.Posted victim))))
+    (λ y e. cc) (λ b e. cc) refl (packed_post (P.Posted victim))))
 
 pub release_stays : ReleaseStays
 release_stays j s (lies, f) id v (at, live) leads answered = request_enters j lies s f id _ v.desk.victim

@@ -19,11 +19,11 @@ use Rattle.kt_rule.specs.declared.views.Desk.{Desk}
 use Rattle.kt_rule.specs.declared.views.View.{View}
 use Rattle.kt_rule.specs.Paths.{put}
 use Rattle.kt_rule.specs.Lists.{In}
-use Rattle.kt_rule.specs.Weights.{next_weight, is_task}
+use Rattle.kt_rule.specs.Weights.{next_weight, is_task, forks_ahead, is_index}
 use Rattle.kt_rule.specs.Lies.{Stage, Waits, Promised, Posted, Given, Runs, Loops, Done, Gone, Lie, Lies, phase_of, stand_of, is_gone, task_of, Cored}
 use Rattle.kt_rule.specs.Records.{layout_of, elements, later_field}
 use Rattle.kt_rule.specs.Views.{path_of, mine_in, claimed_in, given_in, begun_in}
-use Rattle.kt_rule.specs.Facts.{is_there, is_claimed, is_given, is_begun, tally, Sound, Words, IsGiven, Owns, Fits, waiting}
+use Rattle.kt_rule.specs.Facts.{is_there, is_claimed, is_given, is_begun, tally, Sound, Words, IsGiven, Owns, Fits, waiting, waiting_indexes}
 use Rattle.kt_rule.specs.Requests.{Asked}
 use Rattle.kt_rule.specs.LoopWords.{loop_words}
 use Rattle.kt_rule.specs.LoopFacts.{is_early}
@@ -34,10 +34,10 @@ use Rattle.kt_rule.proofs.Sums.{not_among}
 use Rattle.kt_rule.proofs.Cores as cores
 use Rattle.kt_rule.proofs.Words.{Keeps, berth_keeps, known_keeps, note_keeps, says_state, Turn, turn_back, turn_keeps, turn_words}
 use Rattle.kt_rule.proofs.LoopsStay.{put_stay, looped_same}
-use Rattle.kt_rule.proofs.Moves.{drawn_keeps, assemble, fits_keep, turn_owns, positive_not}
+use Rattle.kt_rule.proofs.Moves.{drawn_keeps, assemble, fits_keep, turn_owns, positive_not, positions_keeps}
 use Rattle.kt_steps.proofs.Steps.{none_begun, under_way_else, over_else}
 use Rattle.kt_steps.proofs.Asides.{seat_in, main_lives, record_stays, plain_keeps, plain_words, plain_fits}
-use Rattle.kt_posts.proofs.Desking.{drawn_stays, stop_stays, elements_stay}
+use Rattle.kt_posts.proofs.Desking.{drawn_stays, stop_stays, elements_stay, positions_stay}
 
 not_gone : (x : Stage) → is_begun x ≡ 0 → is_gone x ≡ false
 not_gone Waits a = refl
@@ -129,7 +129,7 @@ module _ (j : Setup) (lies : Lies) (s : State Slots View) (f : Facts j lies s) (
 
   core : Cored j lies' (elements l ws')
   core = subst (Cored j lies') (sym (elements_stay j lies s f k post less n))
-      (cores.stays j f.laws lies (elements l s.words) f.core p t is u refl same_task)
+      (cores.stays j f.laws lies (elements l s.words) f.core p t is u refl refl same_task)
 
   still_keeps : Keeps l lies ws' lies' ws'
   still_keeps = turn_keeps l lies ws' p t u ws' turn words1
@@ -151,6 +151,10 @@ module _ (j : Setup) (lies : Lies) (s : State Slots View) (f : Facts j lies s) (
 
   waits : waiting j p (some t) ≡ waiting j p (some u)
   waits = ap (λ (z : Task (machine_of j.program)). next_weight (machine_of j.program) is_task (left (machine_of j.program) z))
+      (sym same_task)
+
+  waits_indexes : waiting_indexes j p (some t) ≡ waiting_indexes j p (some u)
+  waits_indexes = ap (λ (z : Task (machine_of j.program)). forks_ahead (machine_of j.program) is_index (left (machine_of j.program) z))
       (sym same_task)
 
   module _ (promised : List Promise) (given : List Spot) (d : Desk) where
@@ -183,12 +187,24 @@ module _ (j : Setup) (lies : Lies) (s : State Slots View) (f : Facts j lies s) (
                 (sym h.0) in let c = waits in omega arith)
             | inr h ↦ (let b : waiting j r (lies' r) ≡ waiting j r (lies r) = ap (waiting j r) h.1 in omega arith)
           ]);
+      positions = positions_keeps j lies lies' s.words ws' s.views id v w f.positions at refl refl (λ r h. h)
+          (positions_stay j lies s f k post less n)
+          (λ r. elim (put_cases lies p (some u) r) [
+            | inl h ↦ (let a : waiting_indexes j r (lies r) ≡ waiting_indexes j p (some t)
+                = (λ i. waiting_indexes j (sym h.0 i) (lies (sym h.0 i))) ∙ ap (waiting_indexes j p) is in
+                let b : waiting_indexes j r (lies' r) ≡ waiting_indexes j p (some u) = ap (waiting_indexes j r) h.1
+                ∙ ap (λ (z : Path). waiting_indexes j z (some u)) (sym h.0) in let c = waits_indexes in omega arith)
+            | inr h ↦ (let b : waiting_indexes j r (lies' r) ≡ waiting_indexes j r (lies r) = ap (waiting_indexes j r) h.1 in omega arith)
+          ]);
       stopped = record {
         word = elim f.stopped.word [
           | inl z ↦ inl (stop_stays j lies s f k post less n ∙ z)
           | inr h ↦ inr (
             stop_stays j lies s f k post less n ∙ h.0,
-            (let a = drawn_stays j lies s f k post less n in let b = h.1 in omega arith),
+            elim h.1 [
+              | inl tasks ↦ inl (let a = drawn_stays j lies s f k post less n in omega arith)
+              | inr indexes ↦ inr (let a = positions_stay j lies s f k post less n in omega arith)
+            ],
           )
         ];
       };

@@ -6,7 +6,7 @@ use lib.ListN.{get_elem?}
 use Rattle.atomic_table.specs.Table.{State}
 use Rattle.kt_runs.specs.ByPath.{Path}
 use Rattle.kt_words.specs.Places.{place, worker_word, request, post, answer}
-use Rattle.kt_words.specs.Words.{packed_post, IsPost}
+use Rattle.kt_words.specs.Words.{packed_post, packed_pair, IsPost, IsPair}
 use Rattle.kt_words.specs.declared.layouts.Layout.{Layout}
 use Rattle.kt_words.specs.declared.posts.Post.{Post}
 use Rattle.kt_words.specs.declared.posts.Post.TheVariants as P
@@ -16,6 +16,8 @@ use Rattle.kt_rule.specs.declared.views.Promise.{Promise}
 use Rattle.kt_rule.specs.declared.views.Found.{Found}
 use Rattle.kt_rule.specs.declared.views.Wrote.{Wrote}
 use Rattle.kt_rule.specs.declared.views.Desk.{Desk}
+use Rattle.kt_rule.specs.declared.views.Share.{Share}
+use Rattle.kt_rule.specs.declared.views.LoopHands.{LoopHands}
 use Rattle.kt_rule.specs.declared.views.View.{View}
 use Rattle.kt_rule.specs.Paths.{put}
 use Rattle.kt_rule.specs.Lists.{In, here, there}
@@ -24,19 +26,24 @@ use Rattle.kt_rule.specs.Records.{layout_of, word_at}
 use Rattle.kt_rule.specs.Views.{spot_path, promise_path, promised_in, given_in}
 use Rattle.kt_rule.specs.Facts.{is_claimed, is_promised, is_given, is_begun, tally}
 use Rattle.kt_rule.specs.Requests.{IsPromised, Desked, Asked}
+use Rattle.kt_rule.specs.LoopWords.{LoopWords, Hand, piece_in, pair_in, own_word, loop_words, hand_of, hands_of}
+use Rattle.kt_rule.specs.LoopFacts.{IsShare, Looped}
 use Rattle.kt_rule.specs.Rule.{Slots, Facts}
 use Rattle.kt_rule.proofs.Puts.{put_here, put_else, at_put}
 use Rattle.kt_rule.proofs.Shelf as shelf
 use Rattle.kt_rule.proofs.Sums as sums
 use Rattle.kt_rule.proofs.Sums.{in_left, in_append, in_cons, not_among, among, drops, tally_step, tally_own, tally_alone}
+use Rattle.kt_rule.proofs.LoopsStay.{own_there}
 use Rattle.kt_rule.proofs.Moves.{each_view}
 use Rattle.kt_steps.proofs.Steps.{none_given, given_else, promised_else}
 use Rattle.kt_steps.proofs.Asides.{seat_in}
-use Rattle.kt_posts.specs.Desks.{is_answer, is_idle, without, unwritten, other_promises, leads_now, holds_one, writes_one, answers_one, gives_one, releases_now}
-use Rattle.kt_posts.proofs.PieceWords.{piece_of, request_quiet, answer_quiet, post_quiet}
+use Rattle.kt_steps.proofs.LoopSeats.{at_hand}
+use Rattle.kt_posts.specs.Desks.{is_answer, is_idle, pair_of, without, unwritten, other_promises, other_pieces, leads_now, holds_one, writes_one, answers_one, gives_one, gives_piece, releases_now}
+use Rattle.kt_posts.proofs.PieceMoves.{piece_given}
+use Rattle.kt_posts.proofs.PieceWords.{piece_of, piece_none, pair_there, request_quiet, answer_quiet, post_quiet, givens, pieces, givens_else, pieces_else, given_now, pair_now, words_moved, hands_moved}
 use Rattle.kt_posts.proofs.PostWords.{post_same, idle_zero, not_idle_pos, is_answered, held_one, task_one}
 use Rattle.kt_posts.proofs.Without.{in_without, without_in, in_unwritten, kept_promises, in_kept, same_drop, kept_times}
-use Rattle.kt_posts.proofs.Desking.{desk_step, desk_learned}
+use Rattle.kt_posts.proofs.Desking.{pair_fits, desk_step, pieces_step, desk_learned}
 use Rattle.kt_posts.proofs.Asking as asking
 use Rattle.kt_posts.proofs.Asking.{is_asking, is_onward, asking_no_answer}
 use Rattle.kt_posts.proofs.Handing.{same_task, handed}
@@ -48,6 +55,14 @@ answer_onward (P.Held v) h = refl
 answer_onward P.Failed h = refl
 answer_onward (P.Task a) h = refl
 answer_onward (P.Piece a) h = refl
+
+asking_none : (o : Post) → is_asking o ≡ true → piece_of o ≡ 0
+asking_none P.Idle h = refl
+asking_none (P.Posted v) h = refl
+asking_none (P.Held v) h = refl
+asking_none P.Failed h = refl
+asking_none (P.Task a) h = refl
+asking_none (P.Piece a) h = cc
 
 answer_busy : (o : Post) → is_answer o ≡ true → is_idle o ≡ false
 answer_busy P.Idle h = cc
@@ -104,7 +119,7 @@ module _ (j : Setup) (lies : Lies) (s : State Slots View) (f : Facts j lies s) (
       let b : word_at l s.words (worker_word u.desk.victim request) ≡ word_at l s.words (worker_word x request) = ap
       (λ (z : ℕ). word_at l s.words (worker_word z request)) same_victim in absurd (omega arith)) in
       let d : Desk = (leads_now v x).desk in
-      desk_step j lies s f x request less (suc id) (request_quiet j lies s f x less (suc id)) id v at live d
+      desk_step j lies s f x request less (suc id) (request_quiet l s.words x less (suc id)) id v at live d
       (asking.asked_request l lies s.words s.views a few wide id v at x (suc id) less small alone d
       (asking.desk_stays l lies s.words s.views a few wide id v at x (suc id) less small alone id own d v.desk ours
       refl refl refl refl refl refl
@@ -122,7 +137,7 @@ module _ (j : Setup) (lies : Lies) (s : State Slots View) (f : Facts j lies s) (
       let a = f.asked in let few = f.counts.few in let wide = f.words.wide in let x : ℕ = v.desk.victim in
       let less = (ours.lead leads).0 in let small : 0 ≤ l.workers = omega arith in
       let d : Desk = (releases_now v).desk in
-      desk_step j lies s f x request less 0 (request_quiet j lies s f x less 0) id v at live d
+      desk_step j lies s f x request less 0 (request_quiet l s.words x less 0) id v at live d
       (asking.asked_request l lies s.words s.views a few wide id v at x 0 less small (one_leads leads) d
       (asking.desk_stays l lies s.words s.views a few wide id v at x 0 less small (one_leads leads) id seat_less d v.desk ours
       refl refl refl refl refl refl (λ h. cc) (λ y g. elim g [ ]) (λ y g. elim g [ ])))
@@ -229,9 +244,9 @@ module _ (j : Setup) (lies : Lies) (s : State Slots View) (f : Facts j lies s) (
         → Desked l onward_words id d
         → Facts j lies record { words = onward_words; homes = s.homes; views = set s.views id (record v { desk = d }) }
     onward_step fits_o not_task no_task no_piece d mine = desk_step j lies s f k post less (packed_post after)
-        (post_quiet j lies s f k less after no_piece) id v at live d
+        (post_quiet l s.words f.words.wide k less after before there_is (asking_none before asks) no_piece) id v at live d
         (asking.asked_post l lies s.words s.views f.asked f.counts.few f.words.wide id v at k less after whose alone fits_o
-        (λ b e. not_task b (post_same before (P.Task b) (sym there_is ∙ e))) no_task d mine)
+        (λ b e. not_task b (post_same before (P.Task b) (sym there_is ∙ e))) no_task d v.loops mine)
 
   -- A HOLD of a request that is posted to the victim whom the seat leads
   pub holds_it : (k : ℕ) → k < j.workers → v.desk.leads ≡ true
@@ -347,7 +362,7 @@ module _ (j : Setup) (lies : Lies) (s : State Slots View) (f : Facts j lies s) (
 
       pub writes_it : Facts j lies record { words = ws4; homes = s.homes; views = set s.views id (writes_one v k y) }
       writes_it = let a = f.asked in let d : Desk = (writes_one v k y).desk in
-          desk_step j lies s f k answer thief_less y (answer_quiet j lies s f k thief_less y) id v at live d (record {
+          desk_step j lies s f k answer thief_less y (answer_quiet l s.words k thief_less (P.Held v.desk.victim) held_there refl y) id v at live d (record {
             posts = λ i low. let o = a.posts i low in (o.0, o.1, post_still i low ∙ o.2);
             leads = λ i low. let o = a.leads i low in let e = request_still i low in omega arith;
             tasks = λ i b low e. a.tasks i b low (sym (post_still i low) ∙ e);
@@ -359,6 +374,46 @@ module _ (j : Setup) (lies : Lies) (s : State Slots View) (f : Facts j lies s) (
                 (λ some_part. still id v.desk d.wrote seat_less ours wrote_now) theirs;
             unasked = λ i from low. let n = length-set s.views id (writes_one v k y) in post_still i low ∙ a.unasked i (omega arith) low;
           })
+
+    -- with a piece that the seat has in hand and wrote for it
+    module _ (x : Share) (x_in : In x v.loops.pieces) (written : word_at l s.words (worker_word k answer) ≡ packed_pair (pair_of x))
+        (fits_o : IsPost (P.Piece x.spot.berth.at)) where
+      abbrev o5 : Post
+      o5 = P.Piece x.spot.berth.at
+
+      abbrev ws5 : List ℕ
+      ws5 = set s.words (place l (worker_word k post)) (packed_post o5)
+
+      abbrev loops5 : LoopHands
+      loops5 = record v.loops { pieces = other_pieces x.spot.berth.at x.low v.loops.pieces }
+
+      abbrev w5 : View
+      w5 = record (answers_one v k) { loops = loops5 }
+
+      share_is : IsShare lies x
+      share_is = (f.looped.handles id (hand_of v) (at_hand s.views id v at)).pieces x x_in
+
+      piece_fits : IsPair (pair_of x)
+      piece_fits = pair_fits j lies s f x.spot.path share_is.task x.low x.high share_is.is share_is.first share_is.some_left share_is.last
+
+      none_before : piece_in (own_word l s.words post k) ≡ 0
+      none_before = ap piece_in (own_there l s.words post k thief_less ∙ held_there) ∙ piece_none (P.Held v.desk.victim) refl
+
+      looped5 : Looped j.workers lies (loop_words l ws5) (hands_of (set s.views id w5))
+      looped5 = subst (λ (z : LoopWords × List Hand). Looped j.workers lies z.0 z.1)
+          (λ i. (sym (words_moved l s.words f.words.wide k thief_less o5) i, sym (hands_moved s.views id w5) i))
+          (piece_given j.workers lies (loop_words l s.words) (hands_of s.views) f.looped k thief_less
+          (givens l s.words f.words.wide k thief_less o5) (pieces l s.words f.words.wide k thief_less o5)
+          (givens_else l s.words f.words.wide k thief_less o5) (pieces_else l s.words f.words.wide k thief_less o5) id (hand_of v)
+          (at_hand s.views id v at) x x_in none_before (given_now l s.words f.words.wide k thief_less o5)
+          (pair_now l s.words f.words.wide k thief_less o5 x.spot.berth.at refl ∙ (ap pair_in written ∙ pair_there (pair_of x) piece_fits)))
+
+      pub gives_piece_it : Facts j lies record { words = ws5; homes = s.homes; views = set s.views id (gives_piece v k x) }
+      gives_piece_it = pieces_step j lies s f k post thief_less (packed_post o5) id v at live (answers_one v k).desk loops5 refl looped5
+          (asking.asked_post l lies s.words s.views f.asked f.counts.few f.words.wide id v at k thief_less o5
+          (whose k thief_less (P.Held v.desk.victim) o5 held_there refl refl alone_holds) alone_holds fits_o
+          (λ b e. let z : P.Held v.desk.victim ≡ P.Task b = post_same (P.Held v.desk.victim) (P.Task b) (sym held_there ∙ e) in cc)
+          (λ b e. cc) (answers_one v k).desk loops5 (desk_after o5 refl))
 
     -- with the task that was claimed for it
     module _ (m : Promise) (m_in : In m v.tasks.promised) (thief : m.thief ≡ k) where
@@ -467,7 +522,7 @@ module _ (j : Setup) (lies : Lies) (s : State Slots View) (f : Facts j lies s) (
       posts_task : Facts j (put lies p (some u)) record { words = ws3; homes = s.homes; views = set s.views id w3 }
       posts_task = handed j lies s f id v at live k thief_less (packed_post o3) p t is (Posted k) (ap is_begun stage_is) refl
           (ap phase_of stage_is) refl (ap is_claimed stage_is) (ap stand_of stage_is)
-          (kept_promises p v.tasks.promised) v.tasks.given (answers_one v k).desk (post_quiet j lies s f k thief_less o3 refl) asked3
+          (kept_promises p v.tasks.promised) v.tasks.given (answers_one v k).desk (post_quiet l s.words f.words.wide k thief_less o3 (P.Held v.desk.victim) held_there refl refl) asked3
           (sums.stays given_in is_given lies v w3 p t u is (ap is_given stage_is) (λ q. refl))
           (λ y i. given_else j lies p u y ((f.fits id v at).given y i)
           (not_among spot_path v.tasks.given p (given_none id v at) y i))

@@ -1,4 +1,5 @@
 pub mod PostWords
+pub mod PieceMoves
 pub mod PieceWords
 pub mod Desking
 pub mod Asking

@@ -14,7 +14,7 @@ settled_word v w (P.Posted x) a h = ap (λ (z : View). z.desk.word) h.1
 settled_word v w (P.Held x) a h = ap (λ (z : View). z.desk.word) h.1
 settled_word v w P.Failed a h = ap (λ (z : View). z.desk.word) h.1
 settled_word v w (P.Task b) a h = ap (λ (z : View). z.desk.word) h.1.2
-settled_word v w (P.Piece b) a h = ap (λ (z : View). z.desk.word) h.3
+settled_word v w (P.Piece b) a h = ap (λ (z : View). z.desk.word) h.4
 
 -- what is no request is settled
 pub withdrew_else : (v w : View) (o : Post) (a : Answer) → ((x : ℕ) → o ≢ P.Posted x) → Settled o v w a → Withdrew o v w a

@@ -13,6 +13,7 @@ use Rattle.kt_words.specs.declared.posts.Post.{Post}
 use Rattle.kt_words.specs.declared.posts.Post.TheVariants as P
 use Rattle.kt_rule.specs.declared.views.Setup.{Setup}
 use Rattle.kt_rule.specs.declared.views.Spot.{Spot}
+use Rattle.kt_rule.specs.declared.views.Share.{Share}
 use Rattle.kt_rule.specs.declared.views.Promise.{Promise}
 use Rattle.kt_rule.specs.declared.views.View.{View}
 use Rattle.kt_rule.specs.Lists.{In}
@@ -22,7 +23,7 @@ use Rattle.kt_rule.specs.Rule.{Slots, Facts, Holds}
 use Rattle.kt_rule.specs.Steps.{Tells}
 use Rattle.kt_steps.proofs.Steps.{set_word, inside, holds_so, holds_at, won, told_won, told_lost}
 use Rattle.kt_steps.proofs.Telling.{the_some}
-use Rattle.kt_posts.specs.Desks.{is_answer, posts, sees, gets_piece, freed, takes_task, finds_busy, leads_now, looks_at, holds_one, answers_one, gives_one, releases_now}
+use Rattle.kt_posts.specs.Desks.{is_answer, posts, sees, gets_piece, freed, takes_task, takes_piece, finds_busy, leads_now, looks_at, holds_one, answers_one, gives_one, releases_now}
 use Rattle.kt_posts.specs.Told.{IsOf, IsPostWord, PostsAt, Peeks, GetsPiece, TakesBack, Withdraws, LeadsAt, HoldsAt, FailsAt, GivesAt, Releases}
 use Rattle.kt_posts.proofs.PostWords.{post_same, pos_not_idle, is_answered, posted_one, task_one, worker_one}
 use Rattle.kt_posts.proofs.ThiefSteps as thief
@@ -147,18 +148,38 @@ module _ (opening : List ℕ) (slots id : ℕ) (me : Me Slots View) (j : Setup) 
         tt,
         won opening s i old new id me.1 (freed me.0) hit
             (holds_at opening j lies s id (place_of id post) i (packed_post P.Idle) new (freed me.0) (freed me.0) i_at (sym new_is) refl
-            (thief.frees_it j lies s f id me.0 at live P.Failed there_is (λ y e. cc) (λ b e. cc) me.0.desk.word)),
+            (thief.frees_it j lies s f id me.0 at live P.Failed there_is (λ y e. cc) (λ b e. cc) refl me.0.desk.word)),
         ((hit, (P.Failed, fits_o, refl, word_is, refl)), refl),
       )
-      go lies f i_at hit (P.Piece a) fits_o is there_is word_is = (
-        freed me.0,
-        keeps,
-        tt,
-        won opening s i old new id me.1 (freed me.0) hit
-            (holds_at opening j lies s id (place_of id post) i (packed_post P.Idle) new (freed me.0) (freed me.0) i_at (sym new_is) refl
-            (thief.frees_it j lies s f id me.0 at live (P.Piece a) there_is (λ y e. cc) (λ b e. cc) me.0.desk.word)),
-        ((hit, (P.Piece a, fits_o, refl, word_is, refl)), refl),
-      )
+      go lies f i_at hit (P.Piece a) fits_o is there_is word_is =
+          let x : Share = thief.taken_piece j lies s f id me.0 at live a there_is in let w : View = freed (takes_piece me.0 x) in (
+            w,
+            keeps,
+            tt,
+            won opening s i old new id me.1 w hit
+                (holds_at opening j lies s id (place_of id post) i (packed_post P.Idle) new w w i_at (sym new_is) refl
+                (thief.takes_piece_it j lies s f id me.0 at live a there_is)),
+            (
+              (
+                hit,
+                (
+                  P.Piece a,
+                  fits_o,
+                  refl,
+                  word_is,
+                  (
+                    x,
+                    (thief.piece_is j lies s f id me.0 at live a there_is).at,
+                    thief.piece_fits j lies s f id me.0 at live a there_is,
+                    thief.piece_got j lies s f id me.0 at live a there_is,
+                    refl,
+                    thief.piece_in_region j lies s f id me.0 at live a there_is,
+                  ),
+                ),
+              ),
+              refl,
+            ),
+          )
       go lies f i_at hit (P.Task b) fits_o is there_is word_is =
           let m : Spot = thief.taken j lies s f id me.0 at live b there_is in let w : View = freed (takes_task me.0 m) in (
             w,
@@ -185,7 +206,7 @@ module _ (opening : List ℕ) (slots id : ℕ) (me : Me Slots View) (j : Setup) 
         won opening s i old new id me.1 w hit
             (holds_at opening j lies s id (place_of id post) i (packed_post P.Idle) new w w i_at (sym new_is) refl
             (thief.frees_it j lies s f id me.0 at live (P.Posted victim) (ap (slice_index s.words) i_at ∙ (hit ∙ old_is)) (λ y e. cc)
-            (λ b e. cc) n)),
+            (λ b e. cc) refl n)),
         (told_won opening s i old new id me.1 (w ≡ freed (sees me.0 n false)) (Peeks st me.0 n w) hit refl, refl),
       ))
       (λ miss. let p = peeked lies s f at busy i (sym i_at) me.1 old new in (

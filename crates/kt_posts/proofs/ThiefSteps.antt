@@ -1,5 +1,5 @@
 -- The steps of a thief keep the facts: it asks, looks, takes what it is answered, and withdraws.
-use Rattle.std.proofs.Common.{◌≡◌, ◌≢◌, ℕ, ◌+◌, ◌*◌, ◌<◌, true, false, Bool, List, ◌∷◌, set, sym, refl, ap, ◌∙◌, subst, inl, arith, ⊎_elim}
+use Rattle.std.proofs.Common.{◌≡◌, ◌≢◌, ℕ, suc, ◌+◌, ◌*◌, ◌<◌, true, false, Bool, List, ◌∷◌, set, sym, refl, ap, ◌∙◌, subst, inl, arith, ⊎_elim}
 use mathlib.Core.Option.{some, some-injective}
 use native.Mathlib.Decide.{ℕ_discrete}
 use lib.ListN.{get_elem?}
@@ -7,7 +7,7 @@ use Rattle.atomic_table.specs.Table.{State}
 use Rattle.kt_order.specs.Paths.{same_path}
 use Rattle.kt_runs.specs.ByPath.{Path}
 use Rattle.kt_words.specs.Places.{place, worker_word, post, answer}
-use Rattle.kt_words.specs.Words.{packed_post, IsPost}
+use Rattle.kt_words.specs.Words.{packed_post, packed_pair, IsPost, IsPair}
 use Rattle.kt_words.specs.declared.layouts.Layout.{Layout}
 use Rattle.kt_words.specs.declared.posts.Post.{Post}
 use Rattle.kt_words.specs.declared.posts.Post.TheVariants as P
@@ -16,6 +16,8 @@ use Rattle.kt_rule.specs.declared.views.Setup.{Setup}
 use Rattle.kt_rule.specs.declared.views.Spot.{Spot}
 use Rattle.kt_rule.specs.declared.views.Promise.{Promise}
 use Rattle.kt_rule.specs.declared.views.Desk.{Desk}
+use Rattle.kt_rule.specs.declared.views.Share.{Share}
+use Rattle.kt_rule.specs.declared.views.LoopHands.{LoopHands}
 use Rattle.kt_rule.specs.declared.views.View.{View}
 use Rattle.kt_rule.specs.Paths.{put}
 use Rattle.kt_rule.specs.Lists.{one_if, In}
@@ -24,20 +26,25 @@ use Rattle.kt_rule.specs.Records.{layout_of, word_at}
 use Rattle.kt_rule.specs.Views.{spot_path, promise_path, promised_in, given_in}
 use Rattle.kt_rule.specs.Facts.{is_claimed, is_promised, is_given, is_begun, IsGiven}
 use Rattle.kt_rule.specs.Requests.{IsPromised, Desked, Asked}
+use Rattle.kt_rule.specs.LoopWords.{LoopWords, Hand, piece_in, pair_in, picked, own_word, loop_words, hand_of, hands_of}
+use Rattle.kt_rule.specs.LoopFacts.{IsPiece, Looped}
 use Rattle.kt_rule.specs.Rule.{Slots, Facts}
 use Rattle.kt_rule.proofs.Puts.{put_here, put_else, at_put}
 use Rattle.kt_rule.proofs.Sums as sums
 use Rattle.kt_rule.proofs.Sums.{in_cons, not_among, adds, tally_step}
+use Rattle.kt_rule.proofs.LoopsStay.{own_there}
 use Rattle.kt_rule.proofs.Moves.{each_view}
 use Rattle.kt_steps.proofs.Steps.{none_given, none_promised, given_else, promised_else}
 use Rattle.kt_steps.proofs.Asides.{seat_in}
+use Rattle.kt_steps.proofs.LoopSeats.{at_hand}
 use Rattle.kt_steps.proofs.Telling.{the_some}
 use Rattle.kt_posts.specs.Told.{IsInRegion}
-use Rattle.kt_posts.specs.Desks.{is_answer, posts, sees, gets_piece, freed, takes_task}
+use Rattle.kt_posts.specs.Desks.{is_answer, posts, sees, gets_piece, freed, takes_task, pair_of, takes_piece}
 use Rattle.kt_posts.proofs.PostWords.{post_same, idle_zero, not_idle_pos, idle_not, answer_is, posted_one, task_one}
-use Rattle.kt_posts.proofs.Desking.{desk_step, desk_learned}
+use Rattle.kt_posts.proofs.Desking.{pair_fits, desk_step, pieces_step, desk_learned}
 use Rattle.kt_posts.proofs.Asking.{post_here, post_else, post_there, request_else, answer_else, posts_now, leads_now, desks_now, unasked_now, asked_post}
-use Rattle.kt_posts.proofs.PieceWords.{piece_of, post_quiet}
+use Rattle.kt_posts.proofs.PieceMoves.{piece_taken}
+use Rattle.kt_posts.proofs.PieceWords.{piece_of, piece_some, pair_back, post_quiet, givens, pieces, givens_else, pieces_else, given_now, words_moved, hands_moved}
 use Rattle.kt_posts.proofs.Handing.{same_task, handed}
 
 module _ (j : Setup) (lies : Lies) (s : State Slots View) (f : Facts j lies s) (id : ℕ) (v : View) (at : get_elem? s.views id ≡ some v)
@@ -98,13 +105,14 @@ module _ (j : Setup) (lies : Lies) (s : State Slots View) (f : Facts j lies s) (
       got = λ e. cc;
     }
 
-    -- and it gives no task, before and after
-    pub own_changes : IsPost o → ((b : ℕ) → own_post ≢ packed_post (P.Task b)) → ((b : ℕ) → o ≢ P.Task b) → piece_of o ≡ 0 → (d : Desk)
+    -- and it gives no task and no piece, before and after
+    pub own_changes : IsPost o → (before : Post) → own_post ≡ packed_post before → ((b : ℕ) → before ≢ P.Task b) → piece_of before ≡ 0
+        → ((b : ℕ) → o ≢ P.Task b) → piece_of o ≡ 0 → (d : Desk)
         → Desked l ws' id d → Facts j lies record { words = ws'; homes = s.homes; views = set s.views id (record v { desk = d }) }
-    own_changes fits_o not_task no_task no_piece d mine = desk_step j lies s f id post seat_less (packed_post o)
-        (post_quiet j lies s f id seat_less o no_piece) id v at live d
-        (asked_post l lies s.words s.views f.asked f.counts.few f.words.wide id v at id seat_less o (inl refl) alone fits_o not_task
-        no_task d mine)
+    own_changes fits_o before there_is not_task none_before no_task no_piece d mine = desk_step j lies s f id post seat_less (packed_post o)
+        (post_quiet l s.words f.words.wide id seat_less o before there_is none_before no_piece) id v at live d
+        (asked_post l lies s.words s.views f.asked f.counts.few f.words.wide id v at id seat_less o (inl refl) alone fits_o
+        (λ b e. not_task b (post_same before (P.Task b) (sym there_is ∙ e))) no_task d v.loops mine)
 
   -- a request is stored in an idle post
   pub posts_it : (victim : ℕ) → v.desk.free ≡ true → IsPost (P.Posted victim)
@@ -116,21 +124,21 @@ module _ (j : Setup) (lies : Lies) (s : State Slots View) (f : Facts j lies s) (
   posts_it victim free fits_o =
       let zero_there = own_desk.free free in
       let not_held : (y : ℕ) → own_post ≢ packed_post (P.Held y) = (λ y e. idle_not (P.Held y) (sym zero_there ∙ e) refl) in
-      own_changes (P.Posted victim) not_held fits_o (λ b e. idle_not (P.Task b) (sym zero_there ∙ e) refl) (λ b e. cc) refl
+      own_changes (P.Posted victim) not_held fits_o P.Idle (zero_there ∙ sym idle_zero) (λ b e. cc) refl (λ b e. cc) refl
       (posts v victim).desk
       (own_desk_then (P.Posted victim) not_held false victim v.desk.word (λ e. cc) (λ e. not_idle_pos (P.Posted victim) refl)
       (λ y e p. sym (posted_one victim y p)))
 
-  -- the post becomes idle where nobody holds it and it gives no task
-  pub frees_it : (o : Post) → own_post ≡ packed_post o → ((y : ℕ) → o ≢ P.Held y) → ((b : ℕ) → o ≢ P.Task b) → (word : ℕ)
+  -- the post becomes idle where nobody holds it and it gives neither a task nor a piece
+  pub frees_it : (o : Post) → own_post ≡ packed_post o → ((y : ℕ) → o ≢ P.Held y) → ((b : ℕ) → o ≢ P.Task b) → piece_of o ≡ 0 → (word : ℕ)
       → Facts j lies record {
         words = set s.words (place l (worker_word id post)) (packed_post P.Idle);
         homes = s.homes;
         views = set s.views id (record v { desk = record v.desk { free = true; saw = false; word = word; got = false } });
       }
-  frees_it o word_is not_held no_task word =
+  frees_it o word_is not_held no_task no_piece word =
       let held_not : (y : ℕ) → own_post ≢ packed_post (P.Held y) = (λ y e. not_held y (post_same o (P.Held y) (sym word_is ∙ e))) in
-      own_changes P.Idle held_not (record { number_fits = omega arith }) (λ b e. no_task b (post_same o (P.Task b) (sym word_is ∙ e)))
+      own_changes P.Idle held_not (record { number_fits = omega arith }) o word_is no_task no_piece
       (λ b e. cc) refl (record v.desk { free = true; saw = false; word = word; got = false })
       (own_desk_then P.Idle held_not true v.desk.asked word (λ e. idle_zero) (λ e. cc) (λ y e. cc))
 
@@ -166,6 +174,74 @@ module _ (j : Setup) (lies : Lies) (s : State Slots View) (f : Facts j lies s) (
         wrote = h.wrote;
         got = λ e. (saw, refl);
       })
+
+  -- A PIECE IS TAKEN: the post gives it, and the seat has it in hand from now on
+  module _ (a : ℕ) (there_is : own_post ≡ packed_post (P.Piece a)) where
+    abbrev looped : Looped j.workers lies (loop_words l s.words) (hands_of s.views)
+    looped = f.looped
+
+    given_is : piece_in (own_word l s.words post id) ≡ suc a
+    given_is = ap piece_in (own_there l s.words post id seat_less ∙ there_is) ∙ piece_some a
+
+    pub piece_is : IsPiece lies a ((loop_words l s.words).piece id).low ((loop_words l s.words).piece id).high
+    piece_is = looped.given id a seat_less given_is
+
+    -- the pair that the answer word tells
+    pair_word : (loop_words l s.words).piece id ≡ pair_in (word_at l s.words (worker_word id answer))
+    pair_word = λ i. picked (given_is i) (pair_in (own_there l s.words answer id seat_less i))
+
+    abbrev pub taken_piece : Share
+    taken_piece = record {
+      spot = record { berth = piece_is.task.berth; path = piece_is.path };
+      low = ((loop_words l s.words).piece id).low;
+      high = ((loop_words l s.words).piece id).high;
+    }
+
+    pub piece_fits : IsPair (pair_of taken_piece)
+    piece_fits = pair_fits j lies s f piece_is.path piece_is.task taken_piece.low taken_piece.high piece_is.is piece_is.first
+        piece_is.some_left piece_is.last
+
+    pub piece_got : v.desk.got ≡ true → packed_pair (pair_of taken_piece) ≡ v.desk.piece
+    piece_got got = ap packed_pair pair_word ∙ (pair_back (word_at l s.words (worker_word id answer)) ∙ (own_desk.got got).1)
+
+    pub piece_in_region : IsInRegion v a
+    piece_in_region k told = subst (λ (z : Setup). a < RECORDS * z.workers) (the_some (sym ((f.fits id v at).setup live) ∙ told))
+        (let less = f.words.inside piece_is.path piece_is.task piece_is.is in let at_a = piece_is.at in omega arith)
+
+    abbrev then_words : List ℕ
+    then_words = set s.words (place l (worker_word id post)) (packed_post P.Idle)
+
+    abbrev hands : LoopHands
+    hands = record v.loops { pieces = taken_piece ∷ v.loops.pieces }
+
+    abbrev then_view : View
+    then_view = freed (takes_piece v taken_piece)
+
+    held_not : (y : ℕ) → own_post ≢ packed_post (P.Held y)
+    held_not y e = let z : P.Piece a ≡ P.Held y = post_same (P.Piece a) (P.Held y) (sym there_is ∙ e) in cc
+
+    looped_then : Looped j.workers lies (loop_words l then_words) (hands_of (set s.views id then_view))
+    looped_then = subst (λ (z : LoopWords × List Hand). Looped j.workers lies z.0 z.1)
+        (λ i. (sym (words_moved l s.words f.words.wide id seat_less P.Idle) i, sym (hands_moved s.views id then_view) i))
+        (piece_taken j.workers lies (loop_words l s.words) (hands_of s.views) f.looped id seat_less
+        (givens l s.words f.words.wide id seat_less P.Idle) (pieces l s.words f.words.wide id seat_less P.Idle)
+        (givens_else l s.words f.words.wide id seat_less P.Idle) (pieces_else l s.words f.words.wide id seat_less P.Idle) id (hand_of v)
+        (at_hand s.views id v at) a taken_piece given_is piece_is.at refl (record {
+          task = piece_is.task;
+          is = piece_is.is;
+          berth = refl;
+          live = piece_is.live;
+          some_left = piece_is.some_left;
+          first = piece_is.first;
+          last = piece_is.last;
+        }) (given_now l s.words f.words.wide id seat_less P.Idle))
+
+    pub takes_piece_it : Facts j lies record { words = then_words; homes = s.homes; views = set s.views id then_view }
+    takes_piece_it = pieces_step j lies s f id post seat_less (packed_post P.Idle) id v at live then_view.desk hands refl looped_then
+        (asked_post l lies s.words s.views f.asked f.counts.few f.words.wide id v at id seat_less P.Idle (inl refl)
+        (alone P.Idle held_not) (record { number_fits = omega arith })
+        (λ b e. let z : P.Piece a ≡ P.Task b = post_same (P.Piece a) (P.Task b) (sym there_is ∙ e) in cc) (λ b e. cc) then_view.desk hands
+        (own_desk_then P.Idle held_not true v.desk.asked v.desk.word (λ e. idle_zero) (λ e. cc) (λ y e. cc)))
 
   -- A TASK IS TAKEN: the post gives it, and the seat has it in hand from now on
   module _ (b : ℕ) (there_is : own_post ≡ packed_post (P.Task b)) where
@@ -261,7 +337,7 @@ module _ (j : Setup) (lies : Lies) (s : State Slots View) (f : Facts j lies s) (
     pub takes_it : Facts j (put lies p (some u)) record { words = idle_words; homes = s.homes; views = set s.views id w }
     takes_it = handed j lies s f id v at live id seat_less (packed_post P.Idle) p t is (Given id) (ap is_begun stage_is) refl
         (ap phase_of stage_is) refl (ap is_claimed stage_is)
-        (ap stand_of stage_is) v.tasks.promised (taken ∷ v.tasks.given) w.desk (post_quiet j lies s f id seat_less P.Idle refl) asked_now
+        (ap stand_of stage_is) v.tasks.promised (taken ∷ v.tasks.given) w.desk (post_quiet l s.words f.words.wide id seat_less P.Idle (P.Task b) there_is refl refl) asked_now
         (adds given_in is_given lies v w p t u is (ap is_given stage_is) refl
         (λ q. let c : given_in w q ≡ given_in v q + one_if (same_path q p) = omega arith in c))
         (λ m i. ⊎_elim (λ (h : m ≡ taken). subst (IsGiven (put lies p (some u))) (sym h)

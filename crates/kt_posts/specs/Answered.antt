@@ -3,14 +3,14 @@ use Rattle.std.specs.Prelude.{◌≡◌, ◌≢◌, ℕ, suc, ◌<◌, true, fal
 use Rattle.kt_words.specs.Words.{packed_post, packed_pair, IsPair}
 use Rattle.kt_words.specs.declared.posts.Post.{Post}
 use Rattle.kt_words.specs.declared.posts.Post.TheVariants as P
-use Rattle.kt_words.specs.declared.pairs.Pair.{Pair}
 use Rattle.kt_rule.specs.declared.views.Spot.{Spot}
+use Rattle.kt_rule.specs.declared.views.Share.{Share}
 use Rattle.kt_rule.specs.declared.views.View.{View}
 use Rattle.kt_posts.specs.declared.answers.Lead.{Lead}
 use Rattle.kt_posts.specs.declared.answers.Lead.TheVariants as L
 use Rattle.kt_posts.specs.declared.answers.Answer.{Answer}
 use Rattle.kt_posts.specs.declared.answers.Answer.TheVariants as A
-use Rattle.kt_posts.specs.Desks.{sees, gets_piece, freed, takes_task, finds_busy, leads_now, looks_at, holds_one}
+use Rattle.kt_posts.specs.Desks.{sees, gets_piece, freed, takes_task, pair_of, takes_piece, finds_busy, leads_now, looks_at, holds_one}
 use Rattle.kt_posts.specs.Told.{IsPostWord, IsInRegion}
 
 -- the request word was 0, or it names the worker that leads
@@ -33,9 +33,10 @@ Settled P.Failed v w a = (a ≡ A.Failed) × (w ≡ freed (sees v (packed_post P
 Settled (P.Task at) v w a = (a ≡ A.Task at)
     × ((m : Spot) × (m.berth.at ≡ at) × (w ≡ freed (takes_task (sees v (packed_post (P.Task at)) true) m))
     × IsInRegion v at)
--- with the pair that the own answer word holds
-Settled (P.Piece at) v w a = (pair : Pair) × IsPair pair × (a ≡ A.Piece at pair)
-    × (w ≡ freed (gets_piece (sees v (packed_post (P.Piece at)) true) (packed_pair pair)))
+-- the piece that the own answer word tells
+Settled (P.Piece at) v w a = (x : Share) × (x.spot.berth.at ≡ at) × IsPair (pair_of x) × (a ≡ A.Piece at (pair_of x))
+    × (w ≡ freed (takes_piece (gets_piece (sees v (packed_post (P.Piece at)) true) (packed_pair (pair_of x))) x))
+    × IsInRegion v at
 
 -- the same, where a request that nobody holds is withdrawn
 abbrev pub Withdrew : Post → View → View → Answer → Type 0

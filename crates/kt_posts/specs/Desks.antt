@@ -1,5 +1,6 @@
 -- What a seat knows after a step on a request, a post or an answer word.
 use Rattle.std.specs.Prelude.{ℕ, Bool, true, false, cond, nat_eq, ◌&&◌, List, [], ◌∷◌, ◌++◌}
+use Rattle.kt_words.specs.declared.pairs.Pair.{Pair}
 use Rattle.kt_words.specs.declared.posts.Post.{Post}
 use Rattle.kt_words.specs.declared.posts.Post.TheVariants as P
 use Rattle.kt_rule.specs.declared.views.Spot.{Spot}
@@ -42,6 +43,14 @@ freed v = record v { desk = record v.desk { free = true; saw = false; got = fals
 -- it was given a task, which it is to start next
 abbrev pub takes_task : View → Spot → View
 takes_task v m = record v { tasks = record v.tasks { given = m ∷ v.tasks.given } }
+
+-- from where to where a piece goes
+abbrev pub pair_of : Share → Pair
+pair_of x = record { low = x.low; high = x.high }
+
+-- it was given a piece of a loop
+abbrev pub takes_piece : View → Share → View
+takes_piece v x = record v { loops = record v.loops { pieces = x ∷ v.loops.pieces } }
 
 -- THE LEADER
 

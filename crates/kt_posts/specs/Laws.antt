@@ -16,7 +16,7 @@ use Rattle.kt_rule.specs.Records.{layout_of, word_at}
 use Rattle.kt_rule.specs.Rule.{Slots, IsRuled}
 use Rattle.kt_steps.specs.CoreMoves.{Stays}
 use Rattle.kt_steps.specs.Laws.{IsSeat, Enters, after_step}
-use Rattle.kt_posts.specs.Desks.{is_answer, posts, sees, gets_piece, freed, finds_busy, leads_now, looks_at, holds_one, writes_one, answers_one, gives_one, gives_piece, releases_now}
+use Rattle.kt_posts.specs.Desks.{is_answer, pair_of, posts, sees, gets_piece, freed, finds_busy, leads_now, looks_at, holds_one, writes_one, answers_one, gives_one, gives_piece, releases_now}
 use Rattle.kt_posts.specs.Told.{Took}
 
 -- the post of worker k becomes o, or its request word n, and the seat's view w
@@ -93,7 +93,7 @@ WriteStays = (j : Setup) (s : State Slots View) → IsRuled j s → (id : ℕ) (
 -- and the answer that it is there, a piece which the seat has in hand: a store
 abbrev pub PieceStays : Type 0
 PieceStays = (j : Setup) (s : State Slots View) → IsRuled j s → (id : ℕ) (v : View) → IsSeat s id v → (e : Wrote) (x : Share)
-    → In e v.desk.wrote → In x v.loops.pieces → e.piece ≡ packed_pair (record { low = x.low; high = x.high }) → IsPost (P.Piece x.spot.berth.at)
+    → In e v.desk.wrote → In x v.loops.pieces → e.piece ≡ packed_pair (pair_of x) → IsPost (P.Piece x.spot.berth.at)
     → Enters j Stays s (after_post j s e.thief (P.Piece x.spot.berth.at) id (gives_piece v e.thief x))
 
 -- the exchange that takes the answer which was seen: it finds this very answer, and what it gives is the seat's

@@ -4,15 +4,16 @@ use Rattle.std.specs.Prelude.{◌≡◌, ℕ, ◌*◌, ◌<◌, ◌≤◌, ◌==
 use Rattle.atomic_table.specs.Table.{Step}
 use Rattle.kt_words.specs.Places.{place, worker_word, Own, request, post}
 use Rattle.kt_words.specs.declared.layouts.TheConstants.{RECORDS}
-use Rattle.kt_words.specs.Words.{packed_post, IsPost}
+use Rattle.kt_words.specs.Words.{packed_post, packed_pair, IsPost, IsPair}
 use Rattle.kt_words.specs.declared.posts.Post.{Post}
 use Rattle.kt_words.specs.declared.posts.Post.TheVariants as P
 use Rattle.kt_rule.specs.declared.views.Setup.{Setup}
 use Rattle.kt_rule.specs.declared.views.Spot.{Spot}
+use Rattle.kt_rule.specs.declared.views.Share.{Share}
 use Rattle.kt_rule.specs.declared.views.View.{View}
 use Rattle.kt_rule.specs.Records.{layout_of}
 use Rattle.kt_rule.specs.Rule.{Slots}
-use Rattle.kt_posts.specs.Desks.{is_answer, is_idle, posts, sees, gets_piece, freed, takes_task, finds_busy, leads_now, looks_at, holds_one, answers_one, gives_one, releases_now}
+use Rattle.kt_posts.specs.Desks.{is_answer, is_idle, posts, sees, gets_piece, freed, takes_task, pair_of, takes_piece, finds_busy, leads_now, looks_at, holds_one, answers_one, gives_one, releases_now}
 
 -- the word is this one of worker k
 abbrev pub IsOf : Setup → ℕ → Own → ℕ → Type 0
@@ -42,6 +43,9 @@ IsInRegion v at = (j : Setup) → v.setup ≡ Some j → at < RECORDS * j.worker
 
 abbrev pub Took : Post → View → View → Type 0
 Took (P.Task at) v w = (m : Spot) × (m.berth.at ≡ at) × (w ≡ freed (takes_task v m)) × IsInRegion v at
+-- the piece is the pair that the seat found in its own answer word, where it looked there
+Took (P.Piece at) v w = (x : Share) × (x.spot.berth.at ≡ at) × IsPair (pair_of x)
+    × (v.desk.got ≡ true → packed_pair (pair_of x) ≡ v.desk.piece) × (w ≡ freed (takes_piece v x)) × IsInRegion v at
 Took _ v w = w ≡ freed v
 
 -- the answer that was seen is there still, and it is taken

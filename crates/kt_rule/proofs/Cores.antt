@@ -2,7 +2,7 @@
 -- or what is left of a run.
 use Rattle.std.proofs.Common.{◌≡◌, ◌≢◌, ℕ, suc, ◌<◌, ◌⊎◌, Bool, true, false, cond, List, [], ◌∷◌, ◌++◌, length, sym, refl, ap, ◌∙◌, subst, inl, inr, arith, Option}
 use mathlib.Core.Option as o
-use mathlib.Core.Option.{none, some, some-ne-none}
+use mathlib.Core.Option.{none, some, some-injective, some-ne-none}
 use lib.ListN.{get_elem?}
 use mathlib.Core.Path.{fun_ext}
 use Rattle.kt_law.specs.Acts.{Act}
@@ -17,16 +17,17 @@ use Rattle.kt_order.specs.Lawful.{Lawful}
 use Rattle.kt_order.specs.Paths.{same_path, set_at, bump, HasRoom, IsThere, Earlier}
 use Rattle.kt_order.specs.Named.{Named, named, count_of, forks_in}
 use Rattle.kt_order.proofs.Squares.{count_kept, count_forked}
-use Rattle.kt_order.proofs.ByPaths.{kept_claim, kept_finish, kept_end, kept_do, kept_fork, forks_after_end, forks_after_do, forks_after_fork}
+use Rattle.kt_order.proofs.Changes.{left_forked}
+use Rattle.kt_order.proofs.ByPaths.{at_path, kept_claim, kept_finish, kept_end, kept_do, kept_fork, forks_after_end, forks_after_do, forks_after_fork}
 use Rattle.kt_order.proofs.PathThere.{there_child, child_there, there_more, there_less, below_by}
 use Rattle.kt_prog.specs.Script.{Fault}
 use Rattle.kt_prog.specs.Reference.{Placed, machine_of, main_placed, opened_with}
 use Rattle.kt_runs.specs.Rights.{rights_in}
 use Rattle.kt_runs.specs.ByPath.{Path, child, levels}
 use Rattle.kt_rule.specs.declared.views.Setup.{Setup}
-use Rattle.kt_rule.specs.Paths.{put}
-use Rattle.kt_rule.specs.Lies.{Lie, Lies, phase_of, index_in, task_of, get_of, core_of, counts_of, forks_of, IsHere, Cored}
-use Rattle.kt_rule.proofs.Puts.{put_here, put_else, put_cases, at_put, no_index, get_put, get_at, get_none, same_self, same_is, same_not}
+use Rattle.kt_rule.specs.Paths.{parent_of, number_of, put}
+use Rattle.kt_rule.specs.Lies.{IndexLie, Lie, Lies, phase_of, index_of, index_in, task_of, get_of, core_of, counts_of, forks_of, IsHere, Cored}
+use Rattle.kt_rule.proofs.Puts.{put_here, put_else, put_cases, at_put, no_index, get_put, get_at, get_child, parent_is, same_self, same_is, same_not}
 
 pub child_one : (p q : Path) (k l : ℕ) → child p k ≡ child q l → (p ≡ q) × (k ≡ l)
 child_one [] [] k l e = (refl, cc)
@@ -75,14 +76,18 @@ set_self p f = fun_ext (λ q. go q (same_path q p) refl)
 bump_here : (p : Path) (count : Path → ℕ) → bump p count p ≡ suc (count p)
 bump_here p count = ap (λ (b : Bool). cond b (suc (count p)) (count p)) (same_self p)
 
--- as long as no loop has begun a task lies wherever one is there
-pub all_tasks : (j : Setup) (lies : Lies) (store : List ℕ) → Cored j lies store → (p : Path) → IsHere j lies p
-    → (t : Lie) × (lies p ≡ some t)
-all_tasks j lies store c p h = elim (c.all p h) [
+-- below a task that is no loop under way a task lies wherever one is there
+pub task_there : (j : Setup) (lies : Lies) (store : List ℕ) → Cored j lies store → (p : Path) → IsHere j lies p
+    → ((t : Lie) → lies (parent_of p) ≡ some t → t.indexes ≡ []) → (t : Lie) × (lies p ≡ some t)
+task_there j lies store c p h unlooped = elim (c.all p h) [
   | inl t ↦ t
-  | inr (t, x, is, at) ↦ absurd (some-ne-none x (sym at ∙ ap (λ z. get_elem? z (Rattle.kt_rule.specs.Paths.number_of p))
-      (c.unlooped (Rattle.kt_rule.specs.Paths.parent_of p) t is)))
+  | inr (t, x, is, at) ↦ absurd (some-ne-none x (sym at ∙ ap (λ z. get_elem? z (number_of p)) (unlooped t is)))
 ]
+
+pub child_lies : (j : Setup) (lies : Lies) (store : List ℕ) → Cored j lies store → (p : Path) (t : Lie) → lies p ≡ some t → t.indexes ≡ []
+    → (i : ℕ) → IsHere j lies (child p i) → (u : Lie) × (lies (child p i) ≡ some u)
+child_lies j lies store c p t is no_indexes i h = task_there j lies store c (child p i) h
+    (λ u d. ap (λ (z : Lie). z.indexes) (some-injective u t (sym d ∙ (ap lies (parent_is p i) ∙ is))) ∙ no_indexes)
 
 module _ (j : Setup) (l : Laws (machine_of j.program) (rights_in j.program)) (lies : Lies) (store : List ℕ) (c : Cored j lies store)
     (p : Path) (t : Lie) (is : lies p ≡ some t) where
@@ -105,45 +110,62 @@ module _ (j : Setup) (l : Laws (machine_of j.program) (rights_in j.program)) (li
   got = get_at j lies p t is
 
   -- the task that is there is another, with the same children
-  turn_core : (u : Lie) (store' : List ℕ) → u.indexes ≡ t.indexes → kids (task_of j p u) ≡ kids (get_of j lies p)
+  turn_core : (u : Lie) (store' : List ℕ) → u.berth ≡ t.berth → u.indexes ≡ t.indexes → kids (task_of j p u) ≡ kids (get_of j lies p)
       → LawfulAt (set_at p (task_of j p u) (get_of j lies)) store' → Cored j (put lies p (some u)) store'
-  turn_core u store' same_indexes same_kids h = record {
+  turn_core u store' same_berth same_indexes same_kids h = record {
     lawful = subst (λ (g : Path → Task (machine_of j.program)). LawfulAt g store') (sym put_is) h;
     there = λ q y d. subst (λ (n : Path → ℕ). IsThere levels n q) (sym counts_same)
         (elim (at_put lies p q u y d) [ inl g ↦ c.there q t (ap lies (sym g.0) ∙ is) | inr g ↦ c.there q y g.1 ]);
-    all = λ q d. let old = all_tasks j lies store c q (subst (λ (n : Path → ℕ). IsThere levels n q) counts_same d) in inl
-        (elim (put_cases lies p (some u) q) [ inl g ↦ (u, g.1) | inr g ↦ (old.0, g.1 ∙ old.1) ]);
-    unlooped = λ q y d. elim (at_put lies p q u y d) [
-      | inl g ↦ ap (λ (z : Lie). z.indexes) (sym g.1)
-          ∙ no_indexes
-      | inr g ↦ c.unlooped q y g.1
+    parents = λ q i y d. still_there q (elim (at_put lies p (child q i) u y d) [
+      | inl g ↦ c.parents q i t (ap lies (sym g.0) ∙ is)
+      | inr g ↦ c.parents q i y g.1
+    ]);
+    index_there = λ q y i x d there. subst (λ (n : Path → ℕ). IsThere levels n (child q i)) (sym counts_same)
+        (elim (at_put lies p q u y d) [
+          | inl g ↦ c.index_there q t i x (ap lies (sym g.0) ∙ is)
+              (ap (λ (z : List IndexLie). get_elem? z i) (sym same_indexes ∙ ap (λ (z : Lie). z.indexes) g.1) ∙ there)
+          | inr g ↦ c.index_there q y i x g.1 there
+        ]);
+    all = λ q d. elim (c.all q (subst (λ (n : Path → ℕ). IsThere levels n q) counts_same d)) [
+      | inl old ↦ inl (elim (put_cases lies p (some u) q) [ inl g ↦ (u, g.1) | inr g ↦ (old.0, g.1 ∙ old.1) ])
+      | inr (y, x, y_is, there) ↦ inr (elim (put_cases lies p (some u) (parent_of q)) [
+        | inl g ↦ (
+          u,
+          x,
+          g.1,
+          ap (λ (z : List IndexLie). get_elem? z (number_of q)) (same_indexes
+              ∙ ap (λ (z : Lie). z.indexes) (some-injective t y (sym is ∙ (ap lies g.0 ∙ y_is)))) ∙ there,
+        )
+        | inr g ↦ (y, x, g.1 ∙ y_is, there)
+      ])
     ];
   }
     where
-      no_indexes : u.indexes ≡ []
-      no_indexes = same_indexes ∙ c.unlooped p t is
+      still_there : (q : Path) → (y : Lie) × (lies q ≡ some y) → (y : Lie) × (put lies p (some u) q ≡ some y)
+      still_there q old = elim (put_cases lies p (some u) q) [ inl g ↦ (u, g.1) | inr g ↦ (old.0, g.1 ∙ old.1) ]
 
       put_is : get_of j (put lies p (some u)) ≡ set_at p (task_of j p u) (get_of j lies)
-      put_is = get_put j lies p u (λ i. no_index j p i u no_indexes ∙ sym (ap (index_in j p i) is ∙ no_index j p i t (c.unlooped p t is)))
+      put_is = get_put j lies p u (λ i. (λ k. index_of j p (same_berth k).call i (get_elem? (same_indexes k) i))
+          ∙ sym (ap (index_in j p i) is))
 
       counts_same : counts_of j (put lies p (some u)) ≡ counts_of j lies
       counts_same = ap (count_of m) put_is ∙ count_kept m (get_of j lies) p (task_of j p u) same_kids
 
   -- the core doesn't tell the two apart
-  pub stays : (u : Lie) → u.indexes ≡ t.indexes → task_of j p u ≡ task_of j p t → Cored j (put lies p (some u)) store
-  stays u same_indexes u_is =
+  pub stays : (u : Lie) → u.berth ≡ t.berth → u.indexes ≡ t.indexes → task_of j p u ≡ task_of j p t → Cored j (put lies p (some u)) store
+  stays u same_berth same_indexes u_is =
       let e : task_of j p u ≡ get_of j lies p = u_is ∙ sym got in
-      turn_core u store same_indexes (ap kids e) (subst (λ (g : Path → Task (machine_of j.program)). LawfulAt g store)
+      turn_core u store same_berth same_indexes (ap kids e) (subst (λ (g : Path → Task (machine_of j.program)). LawfulAt g store)
       (sym (ap (λ (y : Task (machine_of j.program)). set_at p y (get_of j lies)) e ∙ set_self p (get_of j lies))) c.lawful)
 
   -- a claim
-  pub claims : (u : Lie) → u.indexes ≡ t.indexes → task_of j p u ≡ events.put m (in_phase m Running) (task_of j p t)
+  pub claims : (u : Lie) → u.berth ≡ t.berth → u.indexes ≡ t.indexes → task_of j p u ≡ events.put m (in_phase m Running) (task_of j p t)
       → (task_of j p t).phase ≡ Unclaimed → Earlier m (MayPass m (rights_in j.program)) p (get_of j lies)
       → Cored j (put lies p (some u)) store
-  claims u same_indexes u_is waits before =
+  claims u same_berth same_indexes u_is waits before =
       let e : task_of j p u ≡ events.put m (in_phase m Running) (get_of j lies p) = u_is ∙ ap (events.put m (in_phase m Running))
       (sym got) in
-      turn_core u store same_indexes (ap kids e)
+      turn_core u store same_berth same_indexes (ap kids e)
       (subst (λ (y : Task (machine_of j.program)). LawfulAt (set_at p y (get_of j lies)) store) (sym e)
       (kept_claim m levels (rights_in j.program) l main_placed root_store p x (c.there p t is)
       (ap (λ (y : Task (machine_of j.program)). y.phase) got ∙ waits) before c.lawful))
@@ -157,12 +179,12 @@ module _ (j : Setup) (l : Laws (machine_of j.program) (rights_in j.program)) (li
       next_there : left m (get_of j lies p) ≡ Do d k
       next_there = ap (left m) got ∙ next
 
-      pub does : (u : Lie) → u.indexes ≡ t.indexes → task_of j p u ≡ events.put m (did m d (m.answer d store)) (task_of j p t)
+      pub does : (u : Lie) → u.berth ≡ t.berth → u.indexes ≡ t.indexes → task_of j p u ≡ events.put m (did m d (m.answer d store)) (task_of j p t)
           → Cored j (put lies p (some u)) (m.after d store)
-      does u same_indexes u_is =
+      does u same_berth same_indexes u_is =
           let e : task_of j p u ≡ events.put m (did m d (m.answer d store)) (get_of j lies p) = u_is ∙ ap
           (events.put m (did m d (m.answer d store))) (sym got) in
-          turn_core u (m.after d store) same_indexes (ap kids e ∙ forks_after_do m levels
+          turn_core u (m.after d store) same_berth same_indexes (ap kids e ∙ forks_after_do m levels
           (rights_in j.program) l main_placed root_store d k p x (c.there p t is) runs_there next_there c.lawful)
           (subst (λ (y : Task (machine_of j.program)). LawfulAt (set_at p y (get_of j lies)) (m.after d store)) (sym e)
           (kept_do m levels (rights_in j.program) l main_placed root_store d k p x (c.there p t is) runs_there next_there c.lawful))
@@ -196,15 +218,15 @@ module _ (j : Setup) (l : Laws (machine_of j.program) (rights_in j.program)) (li
       ends_forks u u_is = ap (forks_of j) (u_is ∙ ap (λ (y : Task (machine_of j.program)). events.put m (in_phase m Finished)
           (events.put m (ended m) y)) (sym got)) ∙ (ap length kids_over ∙ ap (forks_of j) got)
 
-      pub ends : (u : Lie) → u.indexes ≡ t.indexes → task_of j p u ≡ events.put m (in_phase m Finished)
+      pub ends : (u : Lie) → u.berth ≡ t.berth → u.indexes ≡ t.indexes → task_of j p u ≡ events.put m (in_phase m Finished)
           (events.put m (ended m) (task_of j p t)) → ((k : ℕ) → k < forks_of j (task_of j p t)
           → (y : Lie) × (lies (child p k) ≡ some y) × (phase_of y.stage ≡ Finished)) → Cored j (put lies p (some u)) store
-      ends u same_indexes u_is children =
+      ends u same_berth same_indexes u_is children =
           let e : task_of j p u ≡ events.put m (in_phase m Finished) over = u_is ∙ ap
           (λ (y : Task (machine_of j.program)). events.put m (in_phase m Finished) (events.put m (ended m) y)) (sym got) in
           let e1 : events.put m (in_phase m Finished) (get1 p) ≡ task_of j p u = ap (events.put m (in_phase m Finished))
           (set_here p over over (get_of j lies)) ∙ sym e in
-          turn_core u store same_indexes (ap kids e ∙ kids_over)
+          turn_core u store same_berth same_indexes (ap kids e ∙ kids_over)
           (subst (λ (g : Path → Task (machine_of j.program)). LawfulAt g store)
           (ap (λ (y : Task (machine_of j.program)). set_at p y get1) e1 ∙ set_twice p over (task_of j p u) (get_of j lies))
           (kept_finish m levels (rights_in j.program) l main_placed root_store p (record { get = get1; store = store })
@@ -223,7 +245,8 @@ module _ (j : Setup) (l : Laws (machine_of j.program) (rights_in j.program)) (li
               ∙ y.2
 
     -- a fork
-    module _ (b : Placed) (w : Code (machine_of j.program)) (next : left m (task_of j p t) ≡ Fork b w) (room : HasRoom levels p) where
+    module _ (b : Placed) (w : Code (machine_of j.program)) (next : left m (task_of j p t) ≡ Fork b w) (room : HasRoom levels p)
+        (unlooped : t.indexes ≡ []) where
       fork_there : left m (get_of j lies p) ≡ Fork b w
       fork_there = ap (left m) got ∙ next
 
@@ -239,7 +262,7 @@ module _ (j : Setup) (l : Laws (machine_of j.program) (rights_in j.program)) (li
               let less = h.1 in absurd (omega arith)
 
       absent : kids (get_of j lies (p ++ n ∷ [])) ≡ []
-      absent = ap kids (get_none j lies (child p n) c.unlooped no_child)
+      absent = ap kids (get_child j lies p n no_child ∙ (ap (index_in j p n) is ∙ no_index j p n t unlooped))
 
       more : length (kids (events.put m (forked m) (get_of j lies p))) ≡ suc n
       more = forks_after_fork m levels (rights_in j.program) l main_placed root_store b w p x
@@ -250,15 +273,21 @@ module _ (j : Setup) (l : Laws (machine_of j.program) (rights_in j.program)) (li
       forks_one u u_is = ap (forks_of j) (u_is ∙ ap (events.put m (forked m)) (sym got)) ∙
           (more ∙ ap (λ (y : Task (machine_of j.program)). suc (forks_of j y)) got)
 
+      pub forks_left : (u : Lie) → task_of j p u ≡ events.put m (forked m) (task_of j p t) → left m (task_of j p u) ≡ w
+      forks_left u u_is = ap (left m) (u_is ∙ ap (events.put m (forked m)) (sym got)) ∙
+          at_path m levels (rights_in j.program) l main_placed root_store (left m (events.put m (forked m) (get_of j lies p)) ≡ w) p x
+          (c.there p t is) c.lawful
+          (λ below ok. left_forked m (rights_in j.program) l b w (get_of j lies p) below runs_there fork_there ok)
+
       -- the tasks after it
       module _ (u y : Lie) (same_indexes : u.indexes ≡ t.indexes) (none_yet : y.indexes ≡ [])
           (u_is : task_of j p u ≡ events.put m (forked m) (task_of j p t)) (y_is : task_of j (child p n) y ≡ fresh m b) where
         no_indexes : u.indexes ≡ []
-        no_indexes = same_indexes ∙ c.unlooped p t is
+        no_indexes = same_indexes ∙ unlooped
 
         put_parent : get_of j (put lies p (some u)) ≡ set_at p (task_of j p u) (get_of j lies)
         put_parent = get_put j lies p u (λ k. no_index j p k u no_indexes ∙ sym
-            (ap (index_in j p k) is ∙ no_index j p k t (c.unlooped p t is)))
+            (ap (index_in j p k) is ∙ no_index j p k t unlooped))
 
         put_child : get_of j (put (put lies p (some u)) (child p n) (some y)) ≡ set_at (child p n) (task_of j (child p n) y)
             (get_of j (put lies p (some u)))
@@ -286,30 +315,57 @@ module _ (j : Setup) (l : Laws (machine_of j.program) (rights_in j.program)) (li
               | inr g ↦ there_more levels (counts_of j lies) p q (elim
                   (at_put lies p q u z g.1) [ inl i ↦ c.there q t (ap lies (sym i.0) ∙ is) | inr i ↦ c.there q z i.1 ])
             ]);
+        parents = λ q i z d. still_there q (elim (at_put (put lies p (some u)) (child p n) (child q i) y z d) [
+          | inl g ↦ (t, ap lies (sym (child_one p q n i g.0).0) ∙ is)
+          | inr g ↦ (elim (at_put lies p (child q i) u z g.1) [
+            | inl k ↦ c.parents q i t (ap lies (sym k.0) ∙ is)
+            | inr k ↦ c.parents q i z k.1
+          ])
+        ]);
+        index_there = λ q z i x d there. subst (λ (k : Path → ℕ). IsThere levels k (child q i)) (sym counts2)
+            (elim (at_put (put lies p (some u)) (child p n) q y z d) [
+              | inl g ↦ absurd (some-ne-none x (sym there ∙ ap (λ (k : List IndexLie). get_elem? k i)
+                  (ap (λ (k : Lie). k.indexes) (sym g.1) ∙ none_yet)))
+              | inr g ↦ (elim (at_put lies p q u z g.1) [
+                | inl k ↦ absurd (some-ne-none x (sym there ∙ ap (λ (w : List IndexLie). get_elem? w i)
+                    (ap (λ (w : Lie). w.indexes) (sym k.1) ∙ (same_indexes ∙ unlooped))))
+                | inr k ↦ there_more levels (counts_of j lies) p (child q i) (c.index_there q z i x k.1 there)
+              ])
+            ]);
         all = λ q d. elim (there_less levels (counts_of j lies) p q (ap length absent)
             (subst (λ (k : Path → ℕ). IsThere levels k q) counts2 d)) [
-              | inl h ↦ inl (let old = all_tasks j lies store c q h in elim (put_cases (put lies p (some u)) (child p n) (some y) q) [
-                | inl g ↦ (y, g.1)
-                | inr g ↦ (elim (put_cases lies p (some u) q) [ inl i ↦ (u, g.1 ∙ i.1) | inr i ↦ (old.0, g.1 ∙ (i.1 ∙ old.1)) ])
-              ])
+              | inl h ↦ elim (c.all q h) [
+                | inl old ↦ inl (elim (put_cases (put lies p (some u)) (child p n) (some y) q) [
+                  | inl g ↦ (y, g.1)
+                  | inr g ↦ (elim (put_cases lies p (some u) q) [ inl i ↦ (u, g.1 ∙ i.1) | inr i ↦ (old.0, g.1 ∙ (i.1 ∙ old.1)) ])
+                ])
+                | inr (z, x, z_is, there) ↦ inr (z, x, index_stays q z x z_is there, there)
+              ]
               | inr h ↦ inl (
                 y,
                 ap (put (put lies p (some u)) (child p n) (some y)) h ∙ put_here (put lies p (some u)) (child p n)
                     (some y),
               )
             ];
-        unlooped = λ q z d. elim (at_put (put lies p (some u)) (child p n) q y z d) [
-          | inl g ↦ ap (λ (x : Lie). x.indexes) (sym g.1) ∙ none_yet
-          | inr g ↦ (elim (at_put lies p q u z g.1) [
-            | inl i ↦ ap (λ (x : Lie). x.indexes) (sym i.1)
-                ∙ unlooped_now
-            | inr i ↦ c.unlooped q z i.1
-          ])
-        ];
       }
         where
-          unlooped_now : u.indexes ≡ []
-          unlooped_now = same_indexes ∙ c.unlooped p t is
+          still_there : (q : Path) → (z : Lie) × (lies q ≡ some z) → (z : Lie) × (put (put lies p (some u)) (child p n) (some y) q ≡ some z)
+          still_there q old = elim (put_cases (put lies p (some u)) (child p n) (some y) q) [
+            | inl g ↦ (y, g.1)
+            | inr g ↦ (elim (put_cases lies p (some u) q) [ inl i ↦ (u, g.1 ∙ i.1) | inr i ↦ (old.0, g.1 ∙ (i.1 ∙ old.1)) ])
+          ]
+
+          -- the loop above an index is neither the task that forked nor its new child
+          index_stays : (q : Path) (z : Lie) (x : IndexLie) → lies (parent_of q) ≡ some z → get_elem? z.indexes (number_of q) ≡ some x
+              → put (put lies p (some u)) (child p n) (some y) (parent_of q) ≡ some z
+          index_stays q z x z_is there = elim (put_cases (put lies p (some u)) (child p n) (some y) (parent_of q)) [
+            | inl g ↦ absurd (some-ne-none z (sym z_is ∙ (ap lies (sym g.0) ∙ no_child)))
+            | inr g ↦ (elim (put_cases lies p (some u) (parent_of q)) [
+              | inl i ↦ absurd (some-ne-none x (sym there ∙ ap (λ (k : List IndexLie). get_elem? k (number_of q))
+                  (ap (λ (k : Lie). k.indexes) (some-injective z t (sym z_is ∙ (ap lies (sym i.0) ∙ is))) ∙ unlooped)))
+              | inr i ↦ g.1 ∙ (i.1 ∙ z_is)
+            ])
+          ]
 
           get2 : get_of j (put (put lies p (some u)) (child p n) (some y)) ≡ set_at (child p n) (fresh m b)
               (set_at p (events.put m (forked m) (get_of j lies p)) (get_of j lies))

@@ -18,10 +18,10 @@ use Rattle.kt_rule.specs.declared.views.IndexRun.{IndexRun}
 use Rattle.kt_rule.specs.declared.views.View.{View}
 use Rattle.kt_rule.specs.Paths.{put}
 use Rattle.kt_rule.specs.Lists.{weigh, one_if, In, here, there}
-use Rattle.kt_rule.specs.Lies.{IndexLie, Lie, Lies, is_gone}
+use Rattle.kt_rule.specs.Lies.{Stage, IndexLie, Lie, Lies, is_gone}
 use Rattle.kt_rule.specs.Records.{word_at, positions_at}
 use Rattle.kt_rule.specs.LoopWords.{LoopWords, Hand, pair_in, piece_in, picked, piece_beside, own_word, loop_words, hand_of, hands_of, sum_below}
-use Rattle.kt_rule.specs.LoopFacts.{is_early, IsBooked, IsPiece, IsShare, IsPending, IsIndex, index_times, index_tally, task_tally, retired_of, piece_is, shown_pieces, count_piece, Handles, Looped}
+use Rattle.kt_rule.specs.LoopFacts.{is_early, IsBooked, IsPiece, IsShare, IsPending, IsPlaced, IsEmptied, IsIndex, index_times, index_tally, task_tally, retired_of, piece_is, shown_pieces, count_piece, Handles, Looped}
 use Rattle.kt_rule.proofs.Puts.{put_here, put_else, put_cases, at_put}
 use Rattle.kt_rule.proofs.Sums.{in_cons, one_other}
 
@@ -183,6 +183,19 @@ module _ (lies lies' : Lies) (stay : LoopsStay lies lies') where
     count = h.count;
   }
 
+  pub placed_stays : (x : Share) → IsPlaced lies x → IsPlaced lies' x
+  placed_stays x h = let u = stay.forth x.spot.path h.0 h.1 in (u.0, u.1, u.2.first ∙ h.2)
+
+  pub emptied_stays : (p : Path) → IsEmptied lies p → IsEmptied lies' p
+  emptied_stays p h = let u = stay.forth p h.0 h.1 in (u.0, u.1, not_early h.0.stage u.0.stage u.2.early h.2, u.2.unretired ∙ h.3)
+    where
+      not_early : (t u : Stage) → (is_early u ≡ true → is_early t ≡ true) → is_early t ≡ false → is_early u ≡ false
+      not_early t u back late = go (is_early u) refl
+        where
+          go : (b : Bool) → is_early u ≡ b → is_early u ≡ false
+          go true e = absurd (let z : true ≡ false = sym (back e) ∙ late in cc)
+          go false e = e
+
 booked_same : (t u : Lie) → SameLoop t u → IsBooked t → IsBooked u
 booked_same t u s b = record {
   early = λ e. let h = b.early (s.early e) in
@@ -192,6 +205,7 @@ booked_same t u s b = record {
     | inr h ↦ inr (ap (λ (z : List IndexLie). length z) s.indexes ∙ (h ∙ ap (λ (z : Berth). z.call.length) (sym s.berth)))
   ];
   rises = subst (λ z. Rattle.kt_rule.specs.LoopFacts.Rises 0 z) (sym s.pieces) b.rises;
+  fresh = λ i x e. b.fresh i x (ap (λ (z : List IndexLie). get_elem? z i) (sym s.indexes) ∙ e);
   book = subst (λ (z : List Rattle.kt_order.specs.Books.Piece × ℕ × List IndexLie). BookOk (record { pieces = z.0; unretired = z.1 }) (map Rattle.kt_rule.specs.LoopFacts.phase_in z.2))
       (λ i. (sym s.pieces i, sym s.unretired i, sym s.indexes i)) b.book;
 }
@@ -201,6 +215,7 @@ booked_new lies p u new = record {
   early = λ e. (new.no_indexes, new.unretired);
   whole = inl new.no_indexes;
   rises = subst (λ z. Rattle.kt_rule.specs.LoopFacts.Rises 0 z) (sym new.no_pieces) tt;
+  fresh = λ i x e. absurd (some-ne-none x (sym e ∙ ap (λ (z : List IndexLie). get_elem? z i) new.no_indexes));
   book = subst (λ (z : List Rattle.kt_order.specs.Books.Piece × List IndexLie). BookOk (record { pieces = z.0; unretired = u.unretired }) (map Rattle.kt_rule.specs.LoopFacts.phase_in z.1))
       (λ i. (sym new.no_pieces i, sym new.no_indexes i)) (record { pieces = tt; covers = λ i. refl; none_ended = tt; retired = omega arith });
 }
@@ -315,6 +330,8 @@ module _ (workers : ℕ) (lies lies' : Lies) (stay : LoopsStay lies lies') (s : 
       pieces = λ x i. share_stays lies lies' stay x (k.pieces x i);
       taken = λ e i. index_stays lies lies' stay Running e (k.taken e i);
       retired = λ e i. index_stays lies lies' stay Finished e (k.retired e i);
+      placed = λ told x i. placed_stays lies lies' stay x (k.placed told x i);
+      emptied = λ p i. emptied_stays lies lies' stay p (k.emptied p i);
       free = k.free;
       home = k.home;
       sight = k.sight;
@@ -324,6 +341,7 @@ module _ (workers : ℕ) (lies lies' : Lies) (stay : LoopsStay lies lies') (s : 
     };
     unmade = f.unmade;
     bound = f.bound;
+    beyond = f.beyond;
   }
 
 -- where words and hands stay

@@ -1,13 +1,14 @@
 -- A step of a live seat: the rule again, from what the step owes (`Owed`). Every kind of step ends in one of three: a
 -- turn of one task (`turned`), a load (`learned`), or `assemble` itself. A later fact over words that are no record's
 -- and no element's gets a field of `Owed`, and one lemma that it stays where those words do.
-use Rattle.std.proofs.Common.{◌≡◌, ◌≢◌, ℕ, zero, suc, ◌+◌, ◌*◌, ◌<◌, ◌≤◌, ◌⊎◌, true, false, List, [], ◌∷◌, length, set, sym, refl, ap, ◌∙◌, subst, inl, inr, arith, ⊎_elim, length-set}
+use Rattle.std.proofs.Common.{◌≡◌, ◌≢◌, ℕ, zero, suc, ◌+◌, ◌*◌, ◌<◌, ◌≤◌, ◌⊎◌, true, false, cond, List, [], ◌∷◌, length, set, sym, refl, ap, ◌∙◌, subst, inl, inr, arith, ⊎_elim, length-set}
 use mathlib.Core.Option.{some, some-injective, some-ne-none}
 use lib.ListN.{get_elem?}
 use Rattle.atomic_table.specs.Table.{State}
 use Rattle.atomic_table.proofs.Lists.{at_set}
 use Rattle.kt_law.specs.declared.limits.TheConstants.{TASKS}
 use Rattle.kt_order.specs.Forest.{Finished}
+use Rattle.kt_order.specs.Paths.{same_path}
 use Rattle.kt_runs.specs.ByPath.{Path, child}
 use Rattle.kt_words.specs.Places.{record_word, worker_word, Own, request, post, answer}
 use Rattle.kt_words.specs.declared.layouts.Layout.{Layout}
@@ -21,13 +22,14 @@ use Rattle.kt_rule.specs.declared.views.Tasks.{Tasks}
 use Rattle.kt_rule.specs.declared.views.Seen.{Seen}
 use Rattle.kt_rule.specs.declared.views.Region.{Region}
 use Rattle.kt_rule.specs.declared.views.Desk.{Desk}
+use Rattle.kt_rule.specs.declared.views.Share.{Share}
 use Rattle.kt_rule.specs.declared.views.View.{View}
 use Rattle.kt_rule.specs.Paths.{put}
-use Rattle.kt_rule.specs.Lists.{times, In}
+use Rattle.kt_rule.specs.Lists.{weigh, times, In}
 use Rattle.kt_rule.specs.Lies.{Posted, Lie, Lies, Cored, phase_of, is_gone}
 use Rattle.kt_rule.specs.Records.{layout_of, word_at, elements, drawn_at, positions_at, stop_at, own_record}
-use Rattle.kt_rule.specs.Views.{spot_path, path_of, promise_path, mine_in, claimed_in, promised_in, given_in, begun_in, drawn_in, main_berth}
-use Rattle.kt_rule.specs.Facts.{is_there, is_claimed, is_promised, is_given, is_begun, tally, Words, IsSo, IsUnderWay, IsOver, IsPublished, IsKnownFinished, IsGiven, Owns, Fits, waiting, Drawn, Stopped}
+use Rattle.kt_rule.specs.Views.{spot_path, path_of, promise_path, mine_in, claimed_in, promised_in, given_in, begun_in, drawn_in, executions, indexes_of, share_long, positions_in, pending_in, main_berth}
+use Rattle.kt_rule.specs.Facts.{is_there, is_claimed, is_promised, is_given, is_begun, tally, Words, IsSo, IsUnderWay, IsOver, IsPublished, IsKnownFinished, IsGiven, Owns, Fits, waiting, Drawn, waiting_indexes, Positions, Stopped}
 use Rattle.kt_rule.specs.Requests.{IsPromised, Desked, Asked}
 use Rattle.kt_rule.specs.LoopWords.{loop_words, hands_of}
 use Rattle.kt_rule.specs.LoopFacts.{Looped}
@@ -74,6 +76,22 @@ drawn_keeps j lies lies' ws ws' views id v w d at mine draws parts runs_more wor
   crossed = each_view (λ k x. 0 < x.draws.over → TASKS < word_at (layout_of j) ws' drawn_at) views id w
       (λ over. let b = ap (λ z. z.over) draws in let c = d.crossed id v at (omega arith) in omega arith)
       (λ k x n e over. let c = d.crossed k x e over in omega arith);
+}
+
+-- THE COUNT OF POSITIONS, where its word and what was drawn stay
+
+pub positions_keeps : (j : Setup) (lies lies' : Lies) (ws ws' : List ℕ) (views : List View) (id : ℕ) (v w : View)
+    → Positions j lies ws views → get_elem? views id ≡ some v
+    → positions_in w ≡ positions_in v → w.loops.pending ≡ v.loops.pending
+    → ((p : Path) → 0 < begun_in v p → 0 < begun_in w p)
+    → word_at (layout_of j) ws' positions_at ≡ word_at (layout_of j) ws positions_at
+    → ((p : Path) → waiting_indexes j p (lies p) ≤ waiting_indexes j p (lies' p)) → Positions j lies' ws' (set views id w)
+positions_keeps j lies lies' ws ws' views id v w d at same pending runs_more word more = record {
+  count = let h = weigh_set positions_in views id v w at in let k = d.count in omega arith;
+  pending = λ p. let h = weigh_set (λ (x : View). pending_in x p) views id v w at in let k = d.pending p in
+      let a = ap (λ xs. weigh (λ (x : Share). cond (same_path p x.spot.path) (share_long x) 0) xs) pending in let m = more p in omega arith;
+  begun = each_view (λ k x. (y : Share) → In y x.loops.pending → 0 < begun_in x y.spot.path) views id w
+      (λ y i. runs_more y.spot.path (d.begun id v at y (subst (In y) pending i))) (λ k x n e. d.begun k x e);
 }
 
 -- REQUESTS, where their words and the tasks that are posted stay
@@ -158,6 +176,7 @@ pub record Owed (j : Setup) (lies : Lies) (s : State Slots View) (id : ℕ) (v :
   -- the facts on words that are no record's and no element's
   pub asked : Asked (layout_of j) lies' ws' (set s.views id w)
   pub drawn : Drawn j lies' ws' (set s.views id w)
+  pub positions : Positions j lies' ws' (set s.views id w)
   pub stopped : Stopped (layout_of j) ws'
   pub looped : Looped j.workers lies' (loop_words (layout_of j) ws') (hands_of (set s.views id w))
   -- what the seat knows, and what the others know
@@ -171,6 +190,7 @@ pub assemble : (j : Setup) (lies lies' : Lies) (s : State Slots View) (ws' : Lis
     → Owed j lies s id v lies' ws' w → Facts j lies' record { words = ws'; homes = s.homes; views = set s.views id w }
 assemble j lies lies' s ws' id v w f at live o = record {
   crew = f.crew;
+  accepted = f.accepted;
   laws = f.laws;
   core = o.core;
   words = o.words;
@@ -192,6 +212,7 @@ assemble j lies lies' s ws' id v w f at live o = record {
   };
   asked = o.asked;
   drawn = o.drawn;
+  positions = o.positions;
   stopped = o.stopped;
   looped = o.looped;
   fits = each_view (Fits j lies' ws') s.views id w o.fits o.others;
@@ -202,7 +223,13 @@ pub stopped_quiet : (l : Layout) (ws ws' : List ℕ) → Quiet l ws ws' → Stop
 stopped_quiet l ws ws' quiet s = record {
   word = elim s.word [
     | inl z ↦ inl (quiet stop_at tt tt ∙ z)
-    | inr h ↦ inr (quiet stop_at tt tt ∙ h.0, (let e = quiet drawn_at tt tt in let h1 = h.1 in omega arith))
+    | inr h ↦ inr (
+      quiet stop_at tt tt ∙ h.0,
+      elim h.1 [
+        | inl tasks ↦ inl (let e = quiet drawn_at tt tt in omega arith)
+        | inr positions ↦ inr (let e = quiet positions_at tt tt in omega arith)
+      ],
+    )
   ];
 }
 
@@ -272,6 +299,8 @@ pub record Turned (j : Setup) (lies : Lies) (s : State Slots View) (p : Path) (t
   pub unposted : (k : ℕ) → t.stage ≢ Posted k
   pub unposted_now : (k : ℕ) → u.stage ≢ Posted k
   pub waits : waiting j p (some t) ≤ waiting j p (some u)
+  pub waits_indexes : waiting_indexes j p (some t) ≤ waiting_indexes j p (some u)
+  pub positions : weigh indexes_of (executions (with_tasks v tasks known)) ≡ weigh indexes_of (executions v)
   pub claimed : (q : Path) → claimed_in (with_tasks v tasks known) q + tally is_claimed (lies q) ≡ claimed_in v q + tally is_claimed
       (put lies p (some u) q)
   pub promised : (q : Path) → promised_in (with_tasks v tasks known) q + tally is_promised (lies q) ≡ promised_in v q + tally is_promised
@@ -342,6 +371,15 @@ turned j lies s p t u ws' id v tasks known f at live o =
                 (sym h.0) in let c = o.waits in omega arith)
             | inr h ↦ (let b : waiting j q (lies' q) ≡ waiting j q (lies q) = ap (waiting j q) h.1 in omega arith)
           ]);
+      positions = positions_keeps j lies lies' s.words ws' s.views id v w f.positions at (let e = o.positions in omega arith) refl o.more
+          (o.turn.quiet positions_at tt tt)
+          (λ q. elim (put_cases lies p (some u) q) [
+            | inl h ↦ (let a : waiting_indexes j q (lies q) ≡ waiting_indexes j p (some t)
+                = (λ i. waiting_indexes j (sym h.0 i) (lies (sym h.0 i))) ∙ ap (waiting_indexes j p) o.turn.is in
+                let b : waiting_indexes j q (lies' q) ≡ waiting_indexes j p (some u) = ap (waiting_indexes j q) h.1
+                ∙ ap (λ (z : Path). waiting_indexes j z (some u)) (sym h.0) in let c = o.waits_indexes in omega arith)
+            | inr h ↦ (let b : waiting_indexes j q (lies' q) ≡ waiting_indexes j q (lies q) = ap (waiting_indexes j q) h.1 in omega arith)
+          ]);
       stopped = stopped_quiet l s.words ws' o.turn.quiet f.stopped;
       looped = looped_keeps l lies lies' s.words ws' s.views id v w f.looped (put_stay lies p t u o.turn.is o.loop) at refl
           (o.turn.quiet positions_at tt tt) (quiet_own l s.words ws' o.turn.quiet);
@@ -394,6 +432,7 @@ learned j lies s f id v at live seen known notes stop line = let w : View = reco
       asked = asked_keeps (layout_of j) lies lies s.words s.words s.views id v w f.asked f.counts.few at refl refl (λ k o less. refl)
           (same_posted lies) (λ q. refl) (f.asked.promises id v at) (λ k x n e. f.asked.promises k x e);
       drawn = drawn_keeps j lies lies s.words s.words s.views id v w f.drawn at refl refl refl (λ p h. h) refl (λ p. omega arith);
+      positions = positions_keeps j lies lies s.words s.words s.views id v w f.positions at refl refl (λ p h. h) refl (λ p. omega arith);
       stopped = f.stopped;
       looped = looped_keeps (layout_of j) lies lies s.words s.words s.views id v w f.looped (loops_stay lies) at refl refl (λ k o less. refl);
       fits = record {

@@ -6,7 +6,7 @@ use lib.ListN.{get_elem?}
 use Rattle.kt_order.specs.Paths.{same_path, set_at}
 use Rattle.kt_order.proofs.PathChanges.{eq_self}
 use Rattle.kt_order.proofs.Squares as squares
-use Rattle.kt_runs.specs.ByPath.{Path}
+use Rattle.kt_runs.specs.ByPath.{Path, child}
 use Rattle.kt_rule.specs.declared.views.Setup.{Setup}
 use Rattle.kt_rule.specs.Paths.{parent_of, number_of, put}
 use Rattle.kt_rule.specs.Lies.{Lie, Lies, IndexLie, task_of, blank, index_of, index_in, task_or_index, get_of}
@@ -85,10 +85,22 @@ get_put j lies p t same = fun_ext (λ q. go q (same_path q p) refl)
 pub get_at : (j : Setup) (lies : Lies) (p : Path) (t : Lie) → lies p ≡ some t → get_of j lies p ≡ task_of j p t
 get_at j lies p t e = ap (task_or_index j lies p) e
 
-pub get_none : (j : Setup) (lies : Lies) (p : Path) → ((q : Path) (t : Lie) → lies q ≡ some t → t.indexes ≡ []) → lies p ≡ none
-    → get_of j lies p ≡ blank j
-get_none j lies p unlooped e = ap (task_or_index j lies p) e ∙ go (lies (parent_of p)) refl
-  where
-    go : (o : Option Lie) → lies (parent_of p) ≡ o → index_in j (parent_of p) (number_of p) o ≡ blank j
-    go none d = refl
-    go (some t) d = no_index j (parent_of p) (number_of p) t (unlooped (parent_of p) t d)
+-- where no task lies an index may stand
+pub get_none : (j : Setup) (lies : Lies) (p : Path) → lies p ≡ none
+    → get_of j lies p ≡ index_in j (parent_of p) (number_of p) (lies (parent_of p))
+get_none j lies p e = ap (task_or_index j lies p) e
+
+-- a child's parent and its number
+pub parent_is : (p : Path) (i : ℕ) → parent_of (child p i) ≡ p
+parent_is [] i = refl
+parent_is (k ∷ []) i = refl
+parent_is (k ∷ (l ∷ p)) i = ap (λ (z : Path). k ∷ z) (parent_is (l ∷ p) i)
+
+pub number_is : (p : Path) (i : ℕ) → number_of (child p i) ≡ i
+number_is [] i = refl
+number_is (k ∷ []) i = refl
+number_is (k ∷ (l ∷ p)) i = number_is (l ∷ p) i
+
+-- a child that is no task is an index, if anything
+pub get_child : (j : Setup) (lies : Lies) (p : Path) (i : ℕ) → lies (child p i) ≡ none → get_of j lies (child p i) ≡ index_in j p i (lies p)
+get_child j lies p i e = get_none j lies (child p i) e ∙ (λ k. index_in j (parent_is p i k) (number_is p i k) (lies (parent_is p i k)))

@@ -1,13 +1,14 @@
 -- What the words and the views say of the tasks, whichever step comes next: of records, of what a seat knows, of the
 -- lists of all seats together, of the drawn count, and of the stop word.
-use Rattle.std.specs.Prelude.{◌≡◌, ℕ, suc, ◌+◌, ◌*◌, ◌<◌, ◌≤◌, ◌⊎◌, true, false, List, [], ◌∷◌, ◌++◌, length, map, take, Some}
+use Rattle.std.specs.Prelude.{◌≡◌, ℕ, suc, ◌+◌, ◌*◌, ◌<◌, ◌≤◌, ◌⊎◌, Bool, true, false, List, [], ◌∷◌, ◌++◌, length, map, take, Some}
 use mathlib.Core.Option.{Option, none, some}
 use lib.ListN.{get_elem?}
-use Rattle.kt_law.specs.declared.limits.TheConstants.{TASKS}
+use Rattle.kt_law.specs.declared.limits.TheConstants.{INDEXES, TASKS}
 use Rattle.kt_law.specs.declared.accesses.Access.{Access}
 use Rattle.kt_law.specs.declared.stands.Stand.TheVariants as S
 use Rattle.kt_order.specs.Forest.{Task, Running, Finished}
 use Rattle.kt_order.specs.Rest.{left}
+use Rattle.kt_prog.specs.Calls.{Index}
 use Rattle.kt_prog.specs.Reference.{machine_of}
 use Rattle.kt_runs.specs.Theorems.{whole_at}
 use Rattle.kt_runs.specs.ByPath.{Path, child}
@@ -23,12 +24,14 @@ use Rattle.kt_rule.specs.declared.views.Execution.{Execution}
 use Rattle.kt_rule.specs.declared.views.Note.{Note}
 use Rattle.kt_rule.specs.declared.views.Stored.{Stored}
 use Rattle.kt_rule.specs.declared.views.Region.{Region}
+use Rattle.kt_rule.specs.declared.views.Share.{Share}
+use Rattle.kt_rule.specs.declared.views.IndexRun.{IndexRun}
 use Rattle.kt_rule.specs.declared.views.View.{View}
 use Rattle.kt_rule.specs.Lists.{weigh, In}
-use Rattle.kt_rule.specs.Weights.{next_weight, is_task}
+use Rattle.kt_rule.specs.Weights.{next_weight, forks_ahead, is_task, is_index}
 use Rattle.kt_rule.specs.Lies.{Stage, Waits, Promised, Posted, Given, Runs, Loops, Done, Gone, Lie, Lies, phase_of, is_gone, task_of, forks_of}
-use Rattle.kt_rule.specs.Records.{layout_of, word_at, drawn_at, stop_at, own_record, state_of, head_of, field_of, stand_in, fork_in, frame_in, frame_floor}
-use Rattle.kt_rule.specs.Views.{mine_in, claimed_in, given_in, begun_in, drawn_in, frames, roots, spent}
+use Rattle.kt_rule.specs.Records.{layout_of, word_at, drawn_at, positions_at, stop_at, own_record, state_of, head_of, field_of, stand_in, fork_in, frame_in, frame_floor}
+use Rattle.kt_rule.specs.Views.{mine_in, claimed_in, given_in, begun_in, drawn_in, indexes_of, positions_in, pending_in, frames, roots, spent}
 
 -- STAGES, COUNTED: 1 where a task stands so, else 0
 
@@ -150,16 +153,32 @@ pub record IsSo (l : Layout) (lies : Lies) (ws : List ℕ) (n : Note) : Type 0 w
 abbrev pub task_in : (j : Setup) → Execution → Task (machine_of j.program)
 task_in j e = record { call = whole_at (map suc e.spot.path) e.spot.berth.call; phase = Running; answers = e.answers; done = e.done }
 
+-- and an index's
+abbrev pub index_task : (j : Setup) → IndexRun → Task (machine_of j.program)
+index_task j e = record {
+  call = record { path = map suc e.spot.path; job = Index e.spot.berth.call e.index };
+  phase = Running;
+  answers = e.answers;
+  done = e.done;
+}
+
 -- what an entry of `running`, `halted` or `ran` says of its task
 pub record Agrees (j : Setup) (e : Execution) (t : Lie) : Type 0 where
   pub berth : t.berth ≡ e.spot.berth
   pub answers : t.answers ≡ e.answers
   pub count : t.count ≡ e.done
-  pub forks : forks_of j (task_of j e.spot.path t) ≡ e.forks
+  -- the indexes of a loop are its children, from its beginning on
+  pub indexes : length t.indexes ≡ indexes_of e
+  pub forks : forks_of j (task_of j e.spot.path t) ≡ e.forks + indexes_of e
+
+-- how a task stands that a worker runs: as a loop that has begun, or not
+abbrev pub runs_as : Bool → ℕ → Stage
+runs_as false k = Runs k
+runs_as true k = Loops k
 
 -- its task is under way
 abbrev pub IsUnderWay : (j : Setup) → Lies → Execution → Type 0
-IsUnderWay j lies e = (t : Lie) × (lies e.spot.path ≡ some t) × Agrees j e t × ((k : ℕ) × (t.stage ≡ Runs k))
+IsUnderWay j lies e = (t : Lie) × (lies e.spot.path ≡ some t) × Agrees j e t × ((k : ℕ) × (t.stage ≡ runs_as e.looping k))
 
 -- its task is finished
 abbrev pub IsOver : (j : Setup) → Lies → Execution → Type 0
@@ -252,7 +271,21 @@ pub record Drawn (j : Setup) (lies : Lies) (ws : List ℕ) (views : List View) :
   pub held : (seat : ℕ) (v : View) → get_elem? views seat ≡ some v → v.draws.over ≤ length v.draws.hands
   pub crossed : (seat : ℕ) (v : View) → get_elem? views seat ≡ some v → 0 < v.draws.over → TASKS < word_at (layout_of j) ws drawn_at
 
+-- THE COUNT OF POSITIONS
+
+-- how many indexes the loop forks, where it has not begun and nothing else is next
+abbrev pub waiting_indexes : Setup → Path → Option Lie → ℕ
+waiting_indexes j p none = 0
+waiting_indexes j p (some t) = forks_ahead (machine_of j.program) is_index (left (machine_of j.program) (task_of j p t))
+
+-- the count of positions counts those of loops that have begun, and those that were drawn for loops that are about to begin
+pub record Positions (j : Setup) (lies : Lies) (ws : List ℕ) (views : List View) : Type 0 where
+  pub count : word_at (layout_of j) ws positions_at ≡ weigh positions_in views
+  pub pending : (p : Path) → weigh (λ (v : View). pending_in v p) views ≤ waiting_indexes j p (lies p)
+  pub begun : (seat : ℕ) (v : View) → get_elem? views seat ≡ some v → (x : Share) → In x v.loops.pending → 0 < begun_in v x.spot.path
+
 -- THE STOP WORD: 0, or 1 once a count went over its limit
 
 pub record Stopped (l : Layout) (ws : List ℕ) : Type 0 where
-  pub word : (word_at l ws stop_at ≡ 0) ⊎ ((word_at l ws stop_at ≡ 1) × (TASKS < word_at l ws drawn_at))
+  pub word : (word_at l ws stop_at ≡ 0)
+      ⊎ ((word_at l ws stop_at ≡ 1) × ((TASKS < word_at l ws drawn_at) ⊎ (INDEXES < word_at l ws positions_at)))

@@ -17,7 +17,7 @@ use Rattle.kt_prog.specs.Calls.{CallTree, Index}
 use Rattle.kt_prog.specs.Reference.{machine_of, main_placed}
 use Rattle.kt_runs.specs.States.{IsLawful}
 use Rattle.kt_runs.specs.Theorems.{whole_at}
-use Rattle.kt_runs.specs.ByPath.{Path, levels}
+use Rattle.kt_runs.specs.ByPath.{Path, child, levels}
 use Rattle.kt_rule.specs.Paths.{parent_of, number_of}
 use Rattle.kt_rule.specs.declared.views.Setup.{Setup}
 use Rattle.kt_rule.specs.declared.views.Berth.{Berth}
@@ -138,10 +138,11 @@ module _ (j : Setup) where
   IsKnown lies p = ((t : Lie) × (lies p ≡ some t))
       ⊎ ((t : Lie) × (x : IndexLie) × (lies (parent_of p) ≡ some t) × (get_elem? t.indexes (number_of p) ≡ some x))
 
-  -- the core is lawful, and a task is there exactly where its parent has forked it
+  -- the core is lawful, and a task or an index is there exactly where its parent has forked it
   pub record Cored (lies : Lies) (store : List ℕ) : Type 0 where
     pub lawful : IsLawful j.program j.input (named (machine_of j.program) levels (core_of lies store))
     pub there : (p : Path) (t : Lie) → lies p ≡ some t → IsHere lies p
+    -- the parent of a task is one, and no index
+    pub parents : (p : Path) (i : ℕ) (t : Lie) → lies (child p i) ≡ some t → (u : Lie) × (lies p ≡ some u)
+    pub index_there : (p : Path) (t : Lie) (i : ℕ) (x : IndexLie) → lies p ≡ some t → get_elem? t.indexes i ≡ some x → IsHere lies (child p i)
     pub all : (p : Path) → IsHere lies p → IsKnown lies p
-    -- no loop has begun
-    pub unlooped : (p : Path) (t : Lie) → lies p ≡ some t → t.indexes ≡ []

@@ -70,6 +70,8 @@ pub record IsBooked (t : Lie) : Type 0 where
   pub early : is_early t.stage ≡ true → (t.indexes ≡ []) × (t.unretired ≡ t.berth.call.length)
   pub whole : (t.indexes ≡ []) ⊎ (length t.indexes ≡ t.berth.call.length)
   pub rises : Rises 0 t.pieces
+  -- an index that nobody has taken has done nothing
+  pub fresh : (i : ℕ) (x : IndexLie) → get_elem? t.indexes i ≡ some x → x.phase ≡ Unclaimed → (x.answers ≡ []) × (x.count ≡ 0)
   pub book : BookOk (record { pieces = t.pieces; unretired = t.unretired }) (map phase_in t.indexes)
 
 -- the positions of the loop in the record a, from low up to high, and they are some
@@ -102,6 +104,14 @@ pub record IsPending (lies : Lies) (owner : ℕ → Path) (drawn : ℕ) (x : Sha
   pub whole : x.low + x.spot.berth.call.length ≡ x.high
   pub counted : x.high ≤ drawn
   pub owned : (n : ℕ) → x.low ≤ n → n < x.high → owner n ≡ x.spot.path
+
+-- and their first one is told by the loop's record
+abbrev pub IsPlaced : Lies → Share → Type 0
+IsPlaced lies x = (t : Lie) × (lies x.spot.path ≡ some t) × (t.first ≡ x.low)
+
+-- the loop has begun, and nothing of it is left
+abbrev pub IsEmptied : Lies → Path → Type 0
+IsEmptied lies p = (t : Lie) × (lies p ≡ some t) × (is_early t.stage ≡ false) × (t.unretired ≡ 0)
 
 -- an index in hand or retired is in this phase, and did what the seat knows
 pub record IsIndex (lies : Lies) (phase : Phase) (e : IndexRun) : Type 0 where
@@ -184,6 +194,8 @@ pub record Handles (workers : ℕ) (lies : Lies) (owner : ℕ → Path) (s : Loo
   pub pieces : (x : Share) → In x h.loops.pieces → IsShare lies x
   pub taken : (e : IndexRun) → In e h.loops.taken → IsIndex lies Running e
   pub retired : (e : IndexRun) → In e h.loops.retired → IsIndex lies Finished e
+  pub placed : h.loops.placed ≡ true → (x : Share) → In x h.loops.pending → IsPlaced lies x
+  pub emptied : (p : Path) → In p h.loops.emptied → IsEmptied lies p
   -- of the own words, and of a victim, as long as the seat is live
   pub free : 0 < h.parts → h.loops.free ≡ true → (s.interval seat).high ≤ (s.interval seat).low
   pub home : 0 < h.parts → s.home seat ≡ h.loops.home
@@ -192,6 +204,10 @@ pub record Handles (workers : ℕ) (lies : Lies) (owner : ℕ → Path) (s : Loo
   pub overs : h.loops.over ≤ h.parts
   pub held : h.loops.over ≤ length h.loops.pending
   pub crossed : 0 < h.loops.over → INDEXES < s.drawn
+
+-- how many positions a seat has pending whose draw was over the limit
+abbrev pub over_long : Hand → ℕ
+over_long h = cond (nat_eq h.loops.over 0) 0 (weigh (λ (x : Share). x.spot.berth.call.length) h.loops.pending)
 
 -- ALL OF IT
 
@@ -219,3 +235,4 @@ pub record Looped (workers : ℕ) (lies : Lies) (s : LoopWords) (hands : List Ha
   -- workers without a seat have no positions
   pub unmade : (k : ℕ) → length hands ≤ k → k < workers → ((s.interval k).high ≤ (s.interval k).low) × (s.home k ≡ 0)
   pub bound : s.drawn ≤ INDEXES + LENGTH * weigh (λ (h : Hand). h.loops.over) hands
+  pub beyond : s.drawn ≤ INDEXES + weigh over_long hands

@@ -41,6 +41,7 @@ use mathlib.Core.Option.{some}
 use lib.ListN.{get_elem?}
 use Rattle.atomic_table.specs.Table.{State}
 use Rattle.kt_order.specs.Laws.{Laws}
+use Rattle.kt_prog.specs.Accepted.{IsAccepted}
 use Rattle.kt_prog.specs.Reference.{machine_of}
 use Rattle.kt_runs.specs.Rights.{rights_in}
 use Rattle.kt_words.specs.Places.{record_word}
@@ -50,7 +51,7 @@ use Rattle.kt_rule.specs.declared.views.View.{View}
 use Rattle.kt_rule.specs.Lies.{Lie, Lies, Cored, is_gone}
 use Rattle.kt_rule.specs.Records.{layout_of, word_at, elements}
 use Rattle.kt_rule.specs.Views.{main_berth, blank_view}
-use Rattle.kt_rule.specs.Facts.{Words, Fits, Counts, Drawn, Stopped}
+use Rattle.kt_rule.specs.Facts.{Words, Fits, Counts, Drawn, Positions, Stopped}
 use Rattle.kt_rule.specs.Requests.{Asked}
 use Rattle.kt_rule.specs.LoopWords.{loop_words, hands_of}
 use Rattle.kt_rule.specs.LoopFacts.{Looped}
@@ -61,7 +62,8 @@ Slots = Unit {0}
 
 pub record Facts (j : Setup) (lies : Lies) (s : State Slots View) : Type 0 where
   pub crew : j.workers ≤ 8
-  -- the program meets the laws of the theory
+  -- the program is accepted, and meets the laws of the theory
+  pub accepted : IsAccepted j.program
   pub laws : Laws (machine_of j.program) (rights_in j.program)
   pub core : Cored j lies (elements (layout_of j) s.words)
   pub words : Words (layout_of j) lies s.words
@@ -69,6 +71,7 @@ pub record Facts (j : Setup) (lies : Lies) (s : State Slots View) : Type 0 where
   pub counts : Counts (layout_of j) lies s.views
   pub asked : Asked (layout_of j) lies s.words s.views
   pub drawn : Drawn j lies s.words s.views
+  pub positions : Positions j lies s.words s.views
   pub stopped : Stopped (layout_of j) s.words
   pub looped : Looped j.workers lies (loop_words (layout_of j) s.words) (hands_of s.views)
   pub fits : (seat : ℕ) (v : View) → get_elem? s.views seat ≡ some v → Fits j lies s.words seat v

@@ -52,7 +52,7 @@ IsState b stand = IsStateWord (record { frame = b.frame; fork = b.fork; stand = 
 
 -- a task begun, of which nothing is done: its children's frame is a new one
 abbrev pub begun_by : Tasks → Spot → Execution
-begun_by tasks m = record { spot = m; frame = suc tasks.begun; answers = []; done = 0; forks = 0; bumped = []; looked = [] }
+begun_by tasks m = record { spot = m; frame = suc tasks.begun; answers = []; done = 0; forks = 0; looping = false; bumped = []; looked = [] }
 
 abbrev pub with_begun : Tasks → Spot → Tasks
 with_begun tasks m = record tasks { running = begun_by tasks m ∷ tasks.running; begun = suc tasks.begun }

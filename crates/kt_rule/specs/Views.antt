@@ -1,5 +1,6 @@
 -- What the lists of a view say of each path, and the views before the first step and after the last.
-use Rattle.std.specs.Prelude.{ℕ, zero, suc, ◌+◌, false, true, List, [], ◌∷◌, ◌++◌, map, None}
+use Rattle.std.specs.Prelude.{ℕ, zero, suc, ◌+◌, cond, false, true, List, [], ◌∷◌, ◌++◌, map, None}
+use Rattle.kt_order.specs.Paths.{same_path}
 use Rattle.kt_prog.specs.Calls.{main_call}
 use Rattle.kt_runs.specs.ByPath.{Path, child}
 use Rattle.kt_rule.specs.declared.views.Berth.{Berth}
@@ -12,8 +13,9 @@ use Rattle.kt_rule.specs.declared.views.Seen.{Seen}
 use Rattle.kt_rule.specs.declared.views.Draws.{Draws}
 use Rattle.kt_rule.specs.declared.views.Desk.{Desk}
 use Rattle.kt_rule.specs.declared.views.LoopHands.{LoopHands}
+use Rattle.kt_rule.specs.declared.views.Share.{Share}
 use Rattle.kt_rule.specs.declared.views.View.{View}
-use Rattle.kt_rule.specs.Lists.{times}
+use Rattle.kt_rule.specs.Lists.{times, weigh}
 
 abbrev pub spot_path : Spot → Path
 spot_path m = m.path
@@ -43,6 +45,25 @@ begun_in v p = times p (map path_of v.tasks.running) + (times p (map path_of v.t
 
 abbrev pub drawn_in : View → Path → ℕ
 drawn_in v p = times p v.draws.hands
+
+-- all tasks that the seat began
+abbrev pub executions : View → List Execution
+executions v = v.tasks.running ++ (v.tasks.halted ++ v.tasks.ran)
+
+-- how many indexes the task has, as a loop that has begun
+abbrev pub indexes_of : Execution → ℕ
+indexes_of e = cond e.looping e.spot.berth.call.length 0
+
+abbrev pub share_long : Share → ℕ
+share_long x = x.spot.berth.call.length
+
+-- how many positions the seat drew: for loops that it began, and for one that has not begun
+abbrev pub positions_in : View → ℕ
+positions_in v = weigh indexes_of (executions v) + weigh share_long v.loops.pending
+
+-- how many of the latter are of the loop at a path
+abbrev pub pending_in : View → Path → ℕ
+pending_in v p = weigh (λ (x : Share). cond (same_path p x.spot.path) (share_long x) 0) v.loops.pending
 
 -- the paths of the first n children
 abbrev pub children : Path → ℕ → List Path
@@ -96,7 +117,18 @@ quiet_desk = record {
 
 -- nothing of a loop in hand, and an interval that is empty
 abbrev pub no_loops : LoopHands
-no_loops = record { pending = []; pieces = []; taken = []; retired = []; free = true; home = 0; sight = None; over = 0 }
+no_loops = record {
+  pending = [];
+  placed = false;
+  pieces = [];
+  taken = [];
+  retired = [];
+  emptied = [];
+  free = true;
+  home = 0;
+  sight = None;
+  over = 0;
+}
 
 -- the one seat before it is told the setup
 abbrev pub blank_view : View

@@ -50,8 +50,10 @@ pub struct Execution {
     pub answers: LinkedList<u64>,
     /// How many operations it has done.
     pub done: u64,
-    /// How many children it has forked.
+    /// How many tasks it has forked.
     pub forks: u32,
+    /// Whether it is a loop whose indexes have begun: their forks, and its end, are among what it has done.
+    pub looping: bool,
     /// The objects whose versions it has raised, and the versions that it has looked at.
     pub bumped: LinkedList<u32>,
     pub looked: LinkedList<Looked>,
@@ -196,13 +198,16 @@ pub struct Sight {
 
 /// What the seat has in hand of loops.
 pub struct LoopHands {
-    /// Positions that it drew for the loop which it runs, as long as that one has not begun.
+    /// Positions that it drew for the loop which it runs, as long as that one has not begun, and whether its record tells the first.
     pub pending: LinkedList<Share>,
+    pub placed: bool,
     /// Pieces that are in no word.
     pub pieces: LinkedList<Share>,
     /// The indexes that it took and has not retired, and those that it retired.
     pub taken: LinkedList<IndexRun>,
     pub retired: LinkedList<IndexRun>,
+    /// The paths of loops whose indexes it knows to be retired, all of them.
+    pub emptied: LinkedList<LinkedList<u32>>,
     /// Whether it knows that its own interval is empty, and its own home word.
     pub free: bool,
     pub home: u32,

@@ -3,7 +3,7 @@ use Rattle.std.proofs.Common.{◌≡◌, ◌≢◌, ℕ, suc, ◌+◌, ◌*◌, 
 use mathlib.Core.Option.{none, some, some-injective, some-ne-none}
 use lib.ListN.{get_elem?}
 use Rattle.atomic_table.specs.Table.{State, Me, stepped, keeps, step, Allows}
-use Rattle.kt_law.specs.declared.limits.TheConstants.{TASKS}
+use Rattle.kt_law.specs.declared.limits.TheConstants.{TASKS, INDEXES}
 use Rattle.kt_runs.specs.ByPath.{Path}
 use Rattle.kt_words.specs.Places.{Place, place, IsWithin, shared_word, worker_word, record_word, element_word, version_word, Own}
 use Rattle.kt_words.specs.declared.layouts.TheConstants.{RECORDS, FIELDS}
@@ -23,8 +23,10 @@ use Rattle.kt_rule.specs.Steps.{Tells, next_of, builds, Builds, MaySet, knows_st
 use Rattle.kt_rule.proofs.Shelf as shelf
 use Rattle.kt_rule.proofs.Shelf.{IsNoElement, elements_else}
 use Rattle.kt_rule.proofs.Words.{same_lie, Keeps, note_keeps, IsPlain}
+use Rattle.kt_rule.specs.LoopWords.{hand_of}
 use Rattle.kt_rule.proofs.LoopsStay.{loops_stay, looped_keeps}
-use Rattle.kt_rule.proofs.Moves.{at_below, drawn_keeps, same_posted, OwnStay, asked_keeps, assemble, learned}
+use Rattle.kt_steps.proofs.LoopSeats.{at_hand}
+use Rattle.kt_rule.proofs.Moves.{at_below, drawn_keeps, positions_keeps, same_posted, OwnStay, asked_keeps, assemble, learned}
 use Rattle.kt_steps.proofs.Steps.{set_word, inside, holds_so}
 
 plain_no_element : (q : Place) → IsPlain q → IsNoElement q
@@ -154,6 +156,8 @@ module _ (j : Setup) (lies : Lies) (s : State Slots View) (f : Facts j lies s) w
           asked = asked_keeps l lies lies s.words ws' s.views id v w f.asked f.counts.few at refl refl own (same_posted lies) (λ p. refl)
               (f.asked.promises id v at) (λ k x ne e. f.asked.promises k x e);
           drawn = drawn;
+          positions = positions_keeps j lies lies s.words ws' s.views id v w f.positions at refl refl (λ p h. h)
+              (shelf.else l s.words q positions_at n in_q tt not_positions) (λ p. omega arith);
           stopped = stopped;
           looped = looped_keeps l lies lies s.words ws' s.views id v w f.looped (loops_stay lies) at refl
               (shelf.else l s.words q positions_at n in_q tt not_positions) own;
@@ -217,9 +221,9 @@ loads_stop opening slots id me j i setup live i_is s h _ at _ = elim f.stopped.w
     holds w g = holds_so opening _ j lies (subst
         (λ (ws : List ℕ). Facts j lies record { words = ws; homes = s.homes; views = set s.views id w }) (sym (set_word s.words i)) g)
 
--- and the store of it by a seat whose draw was over the limit
+-- and the store of it by a seat a draw of which was over its limit
 pub stores_stop : (opening : List ℕ) (slots id : ℕ) (me : Me Slots View) (j : Setup) (i : ℕ) → me.0.setup ≡ Some j → 0 < me.0.parts
-    → 0 < me.0.draws.over → i ≡ place (layout_of j) stop_at
+    → (0 < me.0.draws.over) ⊎ (0 < me.0.loops.over) → i ≡ place (layout_of j) stop_at
     → Allows (Holds opening) slots id me i (λ _. 1) (λ n. Tells StoresStop (step slots i 1 0 none) me n)
 stores_stop opening slots id me j i setup live over i_is s h _ at _ = (
   knows_stop v,
@@ -255,8 +259,13 @@ stores_stop opening slots id me j i setup live over i_is s h _ at _ = (
     drawn_stays : word_at (layout_of j) ws1 drawn_at ≡ word_at (layout_of j) s.words drawn_at
     drawn_stays = shelf.else (layout_of j) s.words stop_at drawn_at 1 tt tt (λ e. cc)
 
-    crossed : TASKS < word_at (layout_of j) ws1 drawn_at
-    crossed = let a = f.drawn.crossed id v at over in let b = drawn_stays in omega arith
+    crossed : (TASKS < word_at (layout_of j) ws1 drawn_at) ⊎ (INDEXES < word_at (layout_of j) ws1 positions_at)
+    crossed = elim over [
+      | inl tasks ↦ inl (let a = f.drawn.crossed id v at tasks in let b = drawn_stays in omega arith)
+      | inr indexes ↦ inr (let a = (f.looped.handles id (hand_of v) (at_hand s.views id v at)).crossed indexes in
+          let b : word_at (layout_of j) ws1 positions_at ≡ word_at (layout_of j) s.words positions_at
+          = shelf.else (layout_of j) s.words stop_at positions_at 1 tt tt (λ e. cc) in omega arith)
+    ]
 
     done : Facts j lies record { words = ws1; homes = s.homes; views = set s.views id (knows_stop v) }
     done = aside j lies s f stop_at tt tt 1 (λ k o e. cc) (λ e. cc) (λ _. now) id v at live true v.draws
@@ -445,11 +454,19 @@ builds_one opening slots id me j g n i setup live room pos big may new i_is s h 
           (same_posted lies) (λ p. refl) (f.asked.promises id v at) (λ k x ne e. f.asked.promises k x e);
       drawn = drawn_keeps j lies lies s.words ws1 s.views id v (builds v g n) f.drawn at refl refl refl (λ p u. u) drawn_stays
           (λ p. omega arith);
+      positions = positions_keeps j lies lies s.words ws1 s.views id v (builds v g n) f.positions at refl refl (λ p h. h)
+          (shelf.else l1 s.words (record_word a0 g) positions_at n in_q tt (λ e. cc)) (λ p. omega arith);
       stopped = record {
         word = elim f.stopped.word [
           | inl z ↦ inl (stop_stays ∙ z)
-          | inr o ↦ inr
-              (stop_stays ∙ o.0, (let a = drawn_stays in let b = o.1 in omega arith))
+          | inr o ↦ inr (
+            stop_stays ∙ o.0,
+            elim o.1 [
+              | inl tasks ↦ inl (let a = drawn_stays in omega arith)
+              | inr indexes ↦ inr (let a : word_at l1 ws1 positions_at ≡ word_at l1 s.words positions_at
+                  = shelf.else l1 s.words (record_word a0 g) positions_at n in_q tt (λ e. cc) in omega arith)
+            ],
+          )
         ];
       };
       looped = looped_keeps l1 lies lies s.words ws1 s.views id v (builds v g n) f.looped (loops_stay lies) at refl

@@ -11,7 +11,7 @@ use Rattle.kt_law.specs.declared.stands.Stand.{Stand}
 use Rattle.kt_law.specs.declared.stands.Stand.TheVariants as S
 use Rattle.kt_order.specs.Body.{Do, Stop}
 use Rattle.kt_order.specs.Machine.{Code}
-use Rattle.kt_order.specs.Rest.{left}
+use Rattle.kt_order.specs.Rest.{left, standing}
 use Rattle.kt_prog.specs.Script.{Fault}
 use Rattle.kt_rights.specs.Acts.{effect}
 use Rattle.kt_prog.specs.Store.{place_of}
@@ -38,7 +38,8 @@ use Rattle.kt_rule.specs.Steps.{Tells, state_place, state_word, IsState, won_own
 use Rattle.kt_rule.proofs.Sums.{in_cons}
 use Rattle.kt_rule.proofs.Words.{state_one, state_pos, word_parts, says_state, never_empty}
 use Rattle.kt_rule.proofs.Moves.{at_below, learned}
-use Rattle.kt_steps.proofs.Steps.{inside, holds_so, holds_at, won, lost, told_won, told_lost, state_fits, take_all, in_order, by_notes, won_run, won_promise, start_given, start_promised, head_in, head_agrees, does_now, ends_now}
+use Rattle.kt_steps.proofs.Steps.{inside, holds_so, holds_at, won, lost, told_won, told_lost, state_fits, take_all, in_order, by_notes, won_run, won_promise, start_given, start_promised, head_in, head_agrees, does_now, ends_now, at_head, plain_at_act, plain_still}
+use Rattle.kt_order.specs.Stand.{Standing}
 
 -- the task that waits is the one whose state word says so
 pub waits_of : (s : Stage) → stand_of s ≡ S.Unclaimed → s ≡ Waits
@@ -291,19 +292,22 @@ starts_promised opening slots id me j m rest i new setup live promised_is i_is n
 -- the end of the running body and the finish of its task, entered with one store
 pub finishes : (opening : List ℕ) (slots id : ℕ) (me : Me Slots View) (j : Setup) (e : Execution) (rest : List Execution) (i new : ℕ)
     (fault : Option Fault) → me.0.setup ≡ Some j → 0 < me.0.parts → me.0.tasks.running ≡ e ∷ rest
-    → left (machine_of j.program) (task_in j e) ≡ Stop fault → ((k : ℕ) → k < e.forks → In (child e.spot.path k) me.0.seen.known)
+    → (st : Standing (machine_of j.program)) → standing (machine_of j.program) (task_in j e) ≡ Some st → st.over ≡ false
+    → left (machine_of j.program) (task_in j e) ≡ Stop fault
+    → ((k : ℕ) → k < e.forks → In (child e.spot.path k) me.0.seen.known)
     → i ≡ state_place (layout_of j) e.spot.berth.at → new ≡ state_word e.spot.berth S.Finished
     → Allows (Holds opening) slots id me i (λ _. new) (λ _. Tells (Ends e rest) (step slots i new 0 none) me new)
-finishes opening slots id me j e rest i new fault setup live runs next children i_is new_is s h _ at _ =
+finishes opening slots id me j e rest i new fault setup live runs st stands still next children i_is new_is s h _ at _ =
     let x = inside opening s j id me.0 h at live setup in let lies = x.0 in let f = x.1 in let l = layout_of j in
-    let t = ((f.fits id me.0 at).running e (head_in j lies s f id me.0 at live e rest runs)).0 in
-    let b = (head_agrees j lies s f id me.0 at live e rest runs).berth in (
+    let plain = plain_still j lies s f id me.0 at e (at_head me.0 e rest runs) st stands still in
+    let t = ((f.fits id me.0 at).running e (head_in j lies s f id me.0 at live e rest runs plain)).0 in
+    let b = (head_agrees j lies s f id me.0 at live e rest runs plain).berth in (
       ends me.0 e rest,
       keeps,
       tt,
       holds_at opening j _ s id (state_place l t.berth.at) i (state_word t.berth S.Finished) new (ends me.0 e rest) (ends me.0 e rest)
           (ap (λ (b : Berth). state_place l b.at) b ∙ sym i_is) (ap (λ (b : Berth). state_word b S.Finished) b ∙ sym new_is) refl
-          (ends_now j lies s f id me.0 at live e rest runs fault next children),
+          (ends_now j lies s f id me.0 at live e rest runs plain fault next children),
       (refl, refl),
     )
 
@@ -323,6 +327,6 @@ does opening slots id me j e rest d k i first second setup live runs next in_e i
       holds_at opening j _ s id q i (effect d.deed (slice_index s.words q)) (effect d.deed n)
           (does_one me.0 d (slice_index s.words q) e rest) (does_one me.0 d n e rest)
           (sym i_is) (ap (effect d.deed) n_is) (ap (λ (z : ℕ). does_one me.0 d z e rest) n_is)
-          (does_now j lies s f id me.0 at live e rest runs d k next in_e),
+          (does_now j lies s f id me.0 at live e rest runs (plain_at_act j lies s f id me.0 at e (at_head me.0 e rest runs) d k next) d k next in_e),
       (refl, refl),
     )

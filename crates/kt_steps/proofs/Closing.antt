@@ -1,21 +1,23 @@
 -- The close: what the last state says of the seat that stands for all.
-use Rattle.std.proofs.Common.{◌≡◌, ℕ, zero, suc, ◌+◌, ◌<◌, ◌≤◌, ◌⊎◌, List, [], ◌∷◌, ◌++◌, map, length, sym, refl, ap, ◌∙◌, inl, inr, arith, Some}
+use Rattle.std.proofs.Common.{◌≡◌, ℕ, zero, suc, ◌+◌, ◌*◌, ◌<◌, ◌≤◌, ◌⊎◌, List, [], ◌∷◌, ◌++◌, map, length, sym, refl, ap, ◌∙◌, inl, inr, arith, Some}
 use mathlib.Core.Option as o
 use mathlib.Core.Option.{none, some, some-injective, some-ne-none}
 use lib.ListN.{get_elem?}
 use Rattle.atomic_table.specs.Table.{State}
 use Rattle.kt_law.specs.declared.limits.TheConstants.{TASKS}
 use Rattle.kt_law.specs.declared.stands.Stand.TheVariants as S
-use Rattle.kt_order.specs.Lists.{SomeOf}
+use Rattle.kt_order.specs.Lists.{nth, SomeOf}
 use Rattle.kt_order.specs.Forest.{Task, Finished}
 use Rattle.kt_order.specs.Shown.{entry_of}
+use Rattle.kt_order.specs.Sequential.{Entry}
 use Rattle.kt_order.specs.Listed.{all_paths}
 use Rattle.kt_order.proofs.PathDone.{done_there, run_is}
 use Rattle.kt_order.proofs.PathBegins.{path_begins}
+use Rattle.kt_prog.specs.Calls.{Index}
 use Rattle.kt_prog.specs.Reference.{machine_of, main_placed, opened_with}
 use Rattle.kt_runs.specs.Rights.{rights_in}
 use Rattle.kt_runs.specs.Theorems.{whole_at}
-use Rattle.kt_runs.specs.ByPath.{Path, levels}
+use Rattle.kt_runs.specs.ByPath.{Path, child, levels}
 use Rattle.kt_words.specs.Places.{record_word}
 use Rattle.kt_words.specs.Words.{packed_state, IsStateWord}
 use Rattle.kt_words.specs.declared.layouts.Layout.{Layout}
@@ -23,21 +25,26 @@ use Rattle.kt_words.specs.declared.states.StateWord.{StateWord}
 use Rattle.kt_rule.specs.declared.views.Setup.{Setup}
 use Rattle.kt_rule.specs.declared.views.Berth.{Berth}
 use Rattle.kt_rule.specs.declared.views.Execution.{Execution}
+use Rattle.kt_rule.specs.declared.views.IndexRun.{IndexRun}
 use Rattle.kt_rule.specs.declared.views.View.{View}
 use Rattle.kt_rule.specs.Lists.{weigh, times, In}
-use Rattle.kt_rule.specs.Lies.{Stage, Waits, Promised, Posted, Given, Runs, Loops, Done, Gone, Lie, Lies, phase_of, stand_of, is_gone, get_of, core_of, counts_of}
+use Rattle.kt_rule.specs.Lies.{Stage, Waits, Promised, Posted, Given, Runs, Loops, Done, Gone, IndexLie, Lie, Lies, phase_of, stand_of, is_gone, get_of, core_of, counts_of, IsHere}
 use Rattle.kt_rule.specs.Records.{layout_of, word_at, elements, drawn_at, state_of}
-use Rattle.kt_rule.specs.Views.{claimed_in, begun_in, spent}
-use Rattle.kt_rule.specs.Facts.{is_claimed, is_begun, tally, Agrees, Fits}
+use Rattle.kt_rule.specs.Views.{claimed_in, begun_in, executions, spent}
+use Rattle.kt_rule.specs.Weights.{is_task, is_index}
+use Rattle.kt_rule.specs.Facts.{is_claimed, is_begun, tally, task_in, index_task, Fits}
+use Rattle.kt_rule.specs.LoopFacts.{is_retired, task_tally, index_tally, index_times}
 use Rattle.kt_rule.specs.Rule.{Slots, Facts}
 use Rattle.kt_steps.specs.Laws.{CloseGives}
-use Rattle.kt_rule.specs.Close.{the_run, executions, BeginsBody, IsDone, AtClose}
+use Rattle.kt_rule.specs.Close.{the_run, BeginsEntry, BeginsBody, BeginsIndex, IsDone, AtClose}
 use Rattle.kt_rule.proofs.Puts.{get_at}
 use Rattle.kt_rule.proofs.Sums.{weigh_one, in_append}
-use Rattle.kt_rule.proofs.Cores.{all_tasks}
+use Rattle.kt_rule.proofs.Cores.{child_one}
 use Rattle.kt_rule.proofs.Words.{state_one, says_state}
 use Rattle.kt_steps.proofs.Listed.{stands}
 use Rattle.kt_steps.proofs.Drawing.{weigh_less, drawn_within, counted}
+use Rattle.kt_steps.proofs.DrawnPositions.{positions_within, positions_counted, positions_few}
+use Rattle.kt_steps.proofs.Indexed.{agrees, taken_is, retired_is, retired_all, there_as, index_is}
 
 none_of : (g : View → ℕ) (views : List View) → weigh (λ (x : View). x.parts) views ≡ 0
     → ((k : ℕ) (x : View) → get_elem? views k ≡ some x → x.parts ≡ 0 → g x ≡ 0) → weigh g views ≡ 0
@@ -111,27 +118,53 @@ none_or : (x : o.Option Lie) → (x ≡ none) ⊎ ((t : Lie) × (x ≡ some t))
 none_or none = inl refl
 none_or (some t) = inr (t, refl)
 
+weighs_none : (a n : ℕ) → (a ≡ 0) ⊎ (n ≡ 0) → 0 ≡ a * n
+weighs_none a n (inl e) = sym (ap (λ (z : ℕ). z * n) e ∙ zero_by n)
+  where
+    zero_by : (n : ℕ) → 0 * n ≡ 0
+    zero_by n = omega arith
+weighs_none a n (inr e) = sym (ap (λ (z : ℕ). a * z) e ∙ by_zero a)
+  where
+    by_zero : (a : ℕ) → a * 0 ≡ 0
+    by_zero a = omega arith
+
+weighs_one : (a n : ℕ) → a ≡ 1 → n ≡ 1 → 1 ≡ a * n
+weighs_one a n e d = sym (λ i. e i * d i)
+
 pub closes : (j : Setup) (lies : Lies) (s : State Slots View) → Facts j lies s → (id : ℕ) (v : View) → get_elem? s.views id ≡ some v
     → 0 < v.parts → v.parts ≡ j.workers → AtClose j s.words v
 closes j lies s f id v at live parts = record {
   claimed = λ p. let a = claimed p in let b = most (lies p) in omega arith;
   begun = λ p. let a = claimed p in let b = begun p in let d = less (lies p) in omega arith;
-  begins = λ e i. begins e (agrees e i);
+  begins = begins;
+  begins_index = λ e i. elim (in_append v.loops.taken v.loops.retired e i) [
+    | inl h ↦ (let k = taken_is j lies s f id v at e h in begins_at e k.task k.index k.is k.berth k.at k.answers k.count)
+    | inr h ↦ (let k = retired_is j lies s f id v at e h in begins_at e k.task k.index k.is k.berth k.at k.answers k.count)
+  ];
   whole = λ fin. record {
     rows = ap (λ r. r.store) (run_now fin);
     paths = paths;
-    entry = λ p. entry_of (machine_of j.program) (get_of j lies p);
+    entry = entry;
     entries = ap (λ r. r.entries) (run_now fin);
     once = λ p. elim (stands levels (counts_of j lies) p) [ inl h ↦ (let a = h.1 in omega arith) | inr h ↦ (let a = h.1 in omega arith) ];
     claimed = λ p. claimed p ∙ in_paths is_claimed fin (λ s e. (finished_counts s e).0) p;
     begun = λ p. begun p ∙ in_paths is_begun fin (λ s e. (finished_counts s e).1) p;
-    each = λ e i. let h = agrees e i in (λ k. entry_of (machine_of j.program) (get_at j lies e.spot.path h.0 h.1 k)) ∙
-        (λ k. entry_of (machine_of j.program) (record {
-          call = whole_at (map suc e.spot.path)
-              (h.2.berth k).call;
+    retired = λ p i. retired p i ∙ index_paths fin p i;
+    each = λ e i. let h = agrees j lies s f id v at e i in
+        (λ k. entry_of (machine_of j.program) (get_at j lies e.spot.path h.0 h.1 k)) ∙ (λ k. entry_of (machine_of j.program)
+        (record {
+          call = whole_at (map suc e.spot.path) (h.2.berth k).call;
           phase = phase_of h.0.stage;
           answers = h.2.answers k;
           done = h.2.count k;
+        }));
+    each_index = λ e i. let h = retired_is j lies s f id v at e i in
+        (λ k. entry_of (machine_of j.program) (index_is j lies s f e.spot.path h.task e.index h.index h.is h.at k)) ∙
+        (λ k. entry_of (machine_of j.program) (record {
+          call = record { path = map suc e.spot.path; job = Index (h.berth k).call e.index };
+          phase = h.index.phase;
+          answers = h.answers k;
+          done = h.count k;
         }));
   };
   known = λ i. let h = fit.known [] i in main_says (ap phase_of
@@ -139,6 +172,9 @@ closes j lies s f id v at live parts = record {
   drawn = drawn_within j lies s f;
   counted = λ fin. (counted j lies s f (ap (λ r. r.entries) (run_now fin))).0;
   within = within;
+  positions = positions_within j lies s f;
+  positions_counted = λ fin. positions_counted j lies s f (ap (λ r. r.entries) (run_now fin));
+  positions_within = λ fin. positions_few j lies s f (ap (λ r. r.entries) (run_now fin));
   stop = elim f.stopped.word [ inl z ↦ (omega arith) | inr h ↦ (let a = h.0 in omega arith) ];
   stopped = fit.stop;
   over = λ e. elim f.stopped.word [ inl z ↦ absurd (omega arith) | inr h ↦ h.1 ];
@@ -159,6 +195,9 @@ closes j lies s f id v at live parts = record {
     begun : (p : Path) → begun_in v p ≡ tally is_begun (lies p)
     begun p = sym (sums (λ (x : View). begun_in x p) refl) ∙ f.counts.begun p
 
+    retired : (p : Path) (i : ℕ) → index_times p i v.loops.retired ≡ task_tally is_retired i (lies p)
+    retired p i = sym (sums (λ (x : View). index_times p i x.loops.retired) refl) ∙ retired_all j lies s f p i
+
     most : (x : o.Option Lie) → tally is_claimed x ≤ 1
     most none = omega arith
     most (some t) = claimed_most t.stage
@@ -167,37 +206,49 @@ closes j lies s f id v at live parts = record {
     less none = omega arith
     less (some t) = begun_most t.stage
 
-    agrees : (e : Execution) → In e (executions v) → (t : Lie) × (lies e.spot.path ≡ some t) × Agrees j e t
-    agrees e i = elim (in_append v.tasks.running (v.tasks.halted ++ v.tasks.ran) e i) [
-      | inl h ↦ (let a = fit.running e h in (a.0, a.1, a.2))
-      | inr h ↦ (elim (in_append v.tasks.halted v.tasks.ran e h) [
-        | inl g ↦ (let a = fit.halted e g in (a.0, a.1, a.2))
-        | inr g ↦
-            (let a = fit.ran e g in (a.0, a.1, a.2))
-      ])
-    ]
+    entry : Path → Entry (machine_of j.program)
+    entry p = entry_of (machine_of j.program) (get_of j lies p)
 
-    begins : (e : Execution) → (t : Lie) × (lies e.spot.path ≡ some t) × Agrees j e t → BeginsBody j e
-    begins e h = some_more (the_run j).entries (path_begins (machine_of j.program) (rights_in j.program) levels main_placed
-        (opened_with j.program.families j.input) (core_of j lies (elements l s.words)) f.core.lawful e.spot.path
-        (f.core.there e.spot.path h.0 h.1))
+    -- what the entry at a path begins, each that says the same begins too
+    begins_so : (p : Path) (u : Task (machine_of j.program)) → (get_of j lies p).call ≡ u.call → (get_of j lies p).answers ≡ u.answers
+        → (get_of j lies p).done ≡ u.done
+        → IsHere j lies p → BeginsEntry j u
+    begins_so p u call answers done here = some_more (the_run j).entries
+        (path_begins (machine_of j.program) (rights_in j.program) levels main_placed
+        (opened_with j.program.families j.input) (core_of j lies (elements l s.words)) f.core.lawful p here)
         (λ x b. record {
-          call = b.call ∙ (ap (λ (u : Task (machine_of j.program)). u.call) there ∙ ap
-              (λ (z : Berth). whole_at (map suc e.spot.path) z.call) h.2.berth);
+          call = b.call ∙ call;
           more = b.more;
-          answers = b.answers ∙ ap (λ (z : List ℕ). z ++ b.more)
-              (ap (λ (u : Task (machine_of j.program)). u.answers) there ∙ h.2.answers);
+          answers = b.answers ∙ ap (λ (z : List ℕ). z ++ b.more) answers;
           left = b.left;
-          steps = b.steps ∙ ap (λ (n : ℕ). n + b.left) (ap (λ (u : Task (machine_of j.program)). u.done) there ∙ h.2.count);
+          steps = b.steps ∙ ap (λ (n : ℕ). n + b.left) done;
         })
       where
-        there : get_of j lies e.spot.path ≡ Rattle.kt_rule.specs.Lies.task_of j e.spot.path h.0
-        there = get_at j lies e.spot.path h.0 h.1
-
         some_more : {X : Type 0} → {P Q : X → Type 0} → (xs : List X) → SomeOf P xs → ((x : X) → P x → Q x)
-            → (k : ℕ) × (x : X) × (Rattle.kt_order.specs.Lists.nth xs k ≡ Some x) × Q x
+            → (k : ℕ) × (x : X) × (nth xs k ≡ Some x) × Q x
         some_more [] h g = absurd h
         some_more (x ∷ xs) h g = elim h [ inl a ↦ (0, x, refl, g x a) | inr a ↦ (let r = some_more xs a g in (suc r.0, r.1, r.2, r.3)) ]
+
+    begins : (e : Execution) → In e (executions v) → BeginsBody j e
+    begins e i =
+        let h = agrees j lies s f id v at e i in
+        let there = get_at j lies e.spot.path h.0 h.1 in
+        begins_so e.spot.path (task_in j e)
+        (ap (λ (u : Task (machine_of j.program)). u.call) there ∙ ap (λ (z : Berth). whole_at (map suc e.spot.path) z.call) h.2.berth)
+        (ap (λ (u : Task (machine_of j.program)). u.answers) there ∙ h.2.answers)
+        (ap (λ (u : Task (machine_of j.program)). u.done) there ∙ h.2.count)
+        (f.core.there e.spot.path h.0 h.1)
+
+    begins_at : (e : IndexRun) (t : Lie) (x : IndexLie) → lies e.spot.path ≡ some t → t.berth ≡ e.spot.berth
+        → get_elem? t.indexes e.index ≡ some x → x.answers ≡ e.answers → x.count ≡ e.done → BeginsIndex j e
+    begins_at e t x is berth at answers count =
+        let there = index_is j lies s f e.spot.path t e.index x is at in
+        begins_so (child e.spot.path e.index) (index_task j e)
+        (ap (λ (u : Task (machine_of j.program)). u.call) there ∙ ap
+        (λ (z : Berth). record { path = map suc e.spot.path; job = Index z.call e.index }) berth)
+        (ap (λ (u : Task (machine_of j.program)). u.answers) there ∙ answers)
+        (ap (λ (u : Task (machine_of j.program)). u.done) there ∙ count)
+        (f.core.index_there e.spot.path t e.index x is at)
 
     paths : List Path
     paths = all_paths levels (counts_of j lies)
@@ -227,21 +278,68 @@ closes j lies s f id v at live parts = record {
     run_now fin = run_is (machine_of j.program) (rights_in j.program) f.laws levels main_placed (opened_with j.program.families j.input)
         (core_of j lies (elements l s.words)) f.core.lawful (main_done fin)
 
+    -- where main is finished all is
+    all_done : IsDone j s.words → (p : Path) → IsHere j lies p → (get_of j lies p).phase ≡ Finished
+    all_done fin p here = done_there (machine_of j.program) (rights_in j.program) f.laws levels main_placed
+        (opened_with j.program.families j.input) (core_of j lies (elements l s.words)) f.core.lawful (main_done fin) p here
+
     done_at : IsDone j s.words → (p : Path) (t : Lie) → lies p ≡ some t → phase_of t.stage ≡ Finished
-    done_at fin p t is = ap (λ (z : Task (machine_of j.program)). z.phase) (sym (get_at j lies p t is)) ∙ done_there
-        (machine_of j.program) (rights_in j.program) f.laws levels main_placed (opened_with j.program.families j.input)
-        (core_of j lies (elements l s.words)) f.core.lawful (main_done fin) p (f.core.there p t is)
+    done_at fin p t is = ap (λ (z : Task (machine_of j.program)). z.phase) (sym (get_at j lies p t is)) ∙ all_done fin p
+        (f.core.there p t is)
 
     in_paths : (g : Stage → ℕ) → IsDone j s.words → ((s : Stage) → phase_of s ≡ Finished → g s ≡ 1) → (p : Path)
-        → tally g (lies p) ≡ times p paths
-    in_paths g fin one p = elim (stands levels (counts_of j lies) p) [
-      | inl h ↦ (let t = all_tasks j lies (elements l s.words) f.core p h.0 in ap (tally g) t.1 ∙
-          (one t.0.stage (done_at fin p t.0 t.1) ∙ sym h.1))
-      | inr h ↦ (elim (none_or (lies p)) [
-        | inl e ↦ ap (tally g) e ∙ sym h.1
-        | inr e ↦ absurd (h.0 (f.core.there p e.0 e.1))
+        → tally g (lies p) ≡ is_task (entry p).call * times p paths
+    in_paths g fin one p = elim (none_or (lies p)) [
+      | inl e ↦ (elim (stands levels (counts_of j lies) p) [
+        | inl h ↦ (elim (there_as j lies s f p h.0) [
+          | inl (t, is) ↦ absurd (some-ne-none t (sym is ∙ e))
+          | inr (q, i, t, x, p_is, is, there) ↦ ap (tally g) e ∙ weighs_none (is_task (entry p).call) (times p paths)
+              (inl (ap (λ (z : Path). is_task (entry z).call) p_is ∙ ap (λ (z : Task (machine_of j.program)). is_task z.call)
+              (index_is j lies s f q t i x is there)))
+        ])
+        | inr h ↦ ap (tally g) e ∙ weighs_none (is_task (entry p).call) (times p paths) (inr h.1)
+      ])
+      | inr (t, is) ↦ (elim (stands levels (counts_of j lies) p) [
+        | inl h ↦ ap (tally g) is ∙ (one t.stage (done_at fin p t is) ∙ weighs_one (is_task (entry p).call) (times p paths)
+            (ap (λ (z : Task (machine_of j.program)). is_task z.call) (get_at j lies p t is)) h.1)
+        | inr h ↦ absurd (h.0 (f.core.there p t is))
       ])
     ]
+
+    index_paths : IsDone j s.words → (p : Path) (i : ℕ)
+        → task_tally is_retired i (lies p) ≡ is_index (entry (child p i)).call * times (child p i) paths
+    index_paths fin p i = go (lies p) refl
+      where
+        nothing : ((t : Lie) (x : IndexLie) → lies p ≡ some t → get_elem? t.indexes i ≡ some x → ⊥)
+            → 0 ≡ is_index (entry (child p i)).call * times (child p i) paths
+        nothing absent = weighs_none (is_index (entry (child p i)).call) (times (child p i) paths)
+            (elim (stands levels (counts_of j lies) (child p i)) [
+              | inr h ↦ inr h.1
+              | inl h ↦ (elim (there_as j lies s f (child p i) h.0) [
+                | inl (t, is) ↦ inl (ap (λ (z : Task (machine_of j.program)). is_index z.call) (get_at j lies (child p i) t is))
+                | inr (q, k, t, x, p_is, is, there) ↦ (let same = child_one p q i k p_is in
+                    absurd (absent t x (ap lies same.0 ∙ is) (ap (get_elem? t.indexes) same.1 ∙ there)))
+              ])
+            ])
+
+        go : (o : o.Option Lie) → lies p ≡ o → task_tally is_retired i o ≡ is_index (entry (child p i)).call * times (child p i) paths
+        go none e = nothing (λ t x is _. some-ne-none t (sym is ∙ e))
+        go (some t) is = of_index (get_elem? t.indexes i) refl
+          where
+            of_index : (o : o.Option IndexLie) → get_elem? t.indexes i ≡ o
+                → index_tally is_retired o ≡ is_index (entry (child p i)).call * times (child p i) paths
+            of_index none e = nothing (λ u x u_is there. some-ne-none x (sym there ∙ (ap (λ (z : Lie). get_elem? z.indexes i)
+                (some-injective u t (sym u_is ∙ is)) ∙ e)))
+            of_index (some x) there =
+                let here = f.core.index_there p t i x is there in
+                let index = index_is j lies s f p t i x is there in
+                let finished : x.phase ≡ Finished = ap (λ (z : Task (machine_of j.program)). z.phase) (sym index)
+                ∙ all_done fin (child p i) here in
+                elim (stands levels (counts_of j lies) (child p i)) [
+                  | inl h ↦ ap is_retired finished ∙ weighs_one (is_index (entry (child p i)).call) (times (child p i) paths)
+                      (ap (λ (z : Task (machine_of j.program)). is_index z.call) index) h.1
+                  | inr h ↦ absurd (h.0 here)
+                ]
 
     within : IsDone j s.words → word_at l s.words drawn_at ≤ TASKS
     within fin =

@@ -1,7 +1,7 @@
 -- The drawn count: no more numbers are drawn than the reference run has tasks.
 use Rattle.std.proofs.Common.{◌≡◌, ◌≢◌, ℕ, zero, suc, ◌+◌, ◌%◌, ◌^◌, ◌<◌, ◌≤◌, ◌⊎◌, Bool, true, false, List, [], ◌∷◌, ◌++◌, set, map, length, slice_index, sym, refl, ap, ◌∙◌, subst, inl, inr, arith, Some}
 use Rattle.std.proofs.lemmas.List.{length-append}
-use mathlib.Core.Option.{Option, none, some, some-injective}
+use mathlib.Core.Option.{Option, none, some, some-injective, some-ne-none}
 use lib.ListN.{get_elem?}
 use Rattle.atomic_table.specs.Table.{State, Me, stepped, keeps, step, Allows}
 use Rattle.kt_law.specs.declared.limits.TheConstants.{TASKS}
@@ -18,29 +18,29 @@ use Rattle.kt_prog.specs.Entries.{tasks_of}
 use Rattle.kt_prog.specs.Reference.{Placed, machine_of, main_placed, opened_with}
 use Rattle.kt_runs.specs.Rights.{rights_in}
 use Rattle.kt_runs.specs.ByPath.{Path, levels}
+use Rattle.kt_rule.specs.Paths.{parent_of, number_of}
 use Rattle.kt_words.specs.Places.{place}
 use Rattle.kt_rule.specs.declared.views.Setup.{Setup}
 use Rattle.kt_rule.specs.declared.views.Execution.{Execution}
 use Rattle.kt_rule.specs.declared.views.View.{View}
 use Rattle.kt_rule.specs.Lists.{weigh, times, one_if, In, here, there}
 use Rattle.kt_rule.specs.Weights.{next_weight, weight_of, is_task, one_if_whole}
-use Rattle.kt_rule.specs.Lies.{Stage, Waits, Promised, Posted, Given, Runs, Loops, Done, Gone, Lie, Lies, get_of, core_of, counts_of}
-use Rattle.kt_rule.specs.Records.{layout_of, word_at, elements, drawn_at, stop_at}
+use Rattle.kt_rule.specs.Lies.{Stage, Waits, Promised, Posted, Given, Runs, Loops, Done, Gone, IndexLie, Lie, Lies, index_of, index_in, get_of, core_of, counts_of, IsKnown}
+use Rattle.kt_rule.specs.Records.{layout_of, word_at, elements, drawn_at, positions_at, stop_at}
 use Rattle.kt_rule.specs.Views.{spot_path, path_of, begun_in, drawn_in}
 use Rattle.kt_rule.specs.Facts.{is_there, is_begun, tally, task_in, waiting, Drawn}
 use Rattle.kt_rule.specs.Rule.{Slots, Facts, Holds}
 use Rattle.kt_rule.specs.Steps.{Tells, draws_one, Draws}
 use Rattle.kt_rule.specs.Close.{the_run}
-use Rattle.kt_rule.proofs.Puts.{get_at, same_is, same_ne}
+use Rattle.kt_rule.proofs.Puts.{get_at, get_none, same_is, same_ne}
 use Rattle.kt_rule.proofs.Shelf as shelf
 use Rattle.kt_rule.proofs.Sums.{weigh_set, weigh_one, weigh_append, times_append, times_in, map_long, one_self, one_other, tally_alone}
-use Rattle.kt_rule.proofs.Cores.{all_tasks}
 use Rattle.kt_steps.proofs.Weights.{run_weighs, weight_mapped, tasks_weigh}
 use Rattle.kt_steps.proofs.Listed as listed
 use Rattle.kt_steps.proofs.Listed.{stands}
 use Rattle.kt_rule.proofs.Moves.{each_view}
 use Rattle.kt_steps.proofs.Asides.{aside}
-use Rattle.kt_steps.proofs.Steps.{inside, holds_so, head_is, head_task, head_begun, one_begun}
+use Rattle.kt_steps.proofs.Steps.{inside, holds_so, at_head, plain_at_fork, head_is, head_task, head_begun, one_begun}
 
 pub weigh_less : {A : Type 0} (f g : A → ℕ) (xs : List A) → ((k : ℕ) (x : A) → get_elem? xs k ≡ some x → f x ≤ g x)
     → weigh f xs ≤ weigh g xs
@@ -51,7 +51,7 @@ weigh_none : {A : Type 0} (f : A → ℕ) (xs : List A) → ((k : ℕ) (x : A) �
 weigh_none f [] h = refl
 weigh_none f (x ∷ xs) h = let a = h 0 x refl in let b = weigh_none f xs (λ k y. h (suc k) y) in omega arith
 
-weigh_both : {A : Type 0} (f g : A → ℕ) (xs : List A) → weigh (λ x. f x + g x) xs ≡ weigh f xs + weigh g xs
+pub weigh_both : {A : Type 0} (f g : A → ℕ) (xs : List A) → weigh (λ x. f x + g x) xs ≡ weigh f xs + weigh g xs
 weigh_both f g [] = refl
 weigh_both f g (x ∷ xs) = let a = weigh_both f g xs in omega arith
 
@@ -82,17 +82,17 @@ as_long (x ∷ xs) ys h =
     let rest = as_long xs k.0 (λ p. let a = h p in let b = k.2 p in omega arith) in omega arith
 
 -- the lists of all seats in one
-abbrev all_of : (View → List Path) → List View → List Path
+abbrev pub all_of : (View → List Path) → List View → List Path
 all_of paths [] = []
 all_of paths (v ∷ vs) = paths v ++ all_of paths vs
 
-all_times : (paths : View → List Path) (views : List View) (p : Path)
+pub all_times : (paths : View → List Path) (views : List View) (p : Path)
     → times p (all_of paths views) ≡ weigh (λ (v : View). times p (paths v)) views
 all_times paths [] p = refl
 all_times paths (v ∷ vs) p = let a = weigh_append (λ r. one_if (same_path p r)) (paths v) (all_of paths vs) in
     let b = all_times paths vs p in omega arith
 
-all_long : (paths : View → List Path) (views : List View) → length (all_of paths views) ≡ weigh (λ (v : View). length (paths v)) views
+pub all_long : (paths : View → List Path) (views : List View) → length (all_of paths views) ≡ weigh (λ (v : View). length (paths v)) views
 all_long paths [] = refl
 all_long paths (v ∷ vs) = let a = length-append (paths v) (all_of paths vs) in let b = all_long paths vs in omega arith
 
@@ -117,15 +117,15 @@ begun_long v =
     let e = map_long path_of v.tasks.ran in omega arith
 
 -- each path of the list as often as it weighs
-abbrev copies : ℕ → Path → List Path → List Path
+abbrev pub copies : ℕ → Path → List Path → List Path
 copies zero p ps = ps
 copies (suc n) p ps = p ∷ copies n p ps
 
-abbrev spread : (Path → ℕ) → List Path → List Path
+abbrev pub spread : (Path → ℕ) → List Path → List Path
 spread f [] = []
 spread f (p ∷ ps) = copies (f p) p (spread f ps)
 
-copies_long : (n : ℕ) (p : Path) (ps : List Path) → length (copies n p ps) ≡ n + length ps
+pub copies_long : (n : ℕ) (p : Path) (ps : List Path) → length (copies n p ps) ≡ n + length ps
 copies_long zero p ps = omega arith
 copies_long (suc n) p ps = let a = copies_long n p ps in omega arith
 
@@ -133,7 +133,7 @@ copies_times : (n : ℕ) (p q : Path) (ps : List Path) → times q ps ≤ times 
 copies_times zero p q ps = omega arith
 copies_times (suc n) p q ps = let a = copies_times n p q ps in omega arith
 
-copies_here : (n : ℕ) (p q : Path) (ps : List Path) → p ≡ q → n ≤ times q (copies n p ps)
+pub copies_here : (n : ℕ) (p q : Path) (ps : List Path) → p ≡ q → n ≤ times q (copies n p ps)
 copies_here zero p q ps e = omega arith
 copies_here (suc n) p q ps e = let a = copies_here n p q ps e in let b = one_self q p e in omega arith
 
@@ -141,7 +141,7 @@ spread_long : (f : Path → ℕ) (ps : List Path) → length ps + length (spread
 spread_long f [] = omega arith
 spread_long f (p ∷ ps) = let a = spread_long f ps in let b = copies_long (f p) p (spread f ps) in omega arith
 
-spread_times : (f : Path → ℕ) (q : Path) (ps : List Path) → 0 < times q ps → f q ≤ times q (spread f ps)
+pub spread_times : (f : Path → ℕ) (q : Path) (ps : List Path) → 0 < times q ps → f q ≤ times q (spread f ps)
 spread_times f q [] h = absurd (omega arith)
 spread_times f q (p ∷ ps) h = go (same_path q p) refl (spread_times f q ps)
   where
@@ -151,12 +151,12 @@ spread_times f q (p ∷ ps) h = go (same_path q p) refl (spread_times f q ps)
     go false e rest = let o : one_if (same_path q p) ≡ 0 = ap one_if e in let a = rest (omega arith) in
         let b = copies_times (f p) p q (spread f ps) in omega arith
 
-spread_both : (f g : Path → ℕ) (ps : List Path) → length (spread f ps) + length (spread g ps) ≡ sum_over (λ p. f p + g p) ps
+pub spread_both : (f g : Path → ℕ) (ps : List Path) → length (spread f ps) + length (spread g ps) ≡ sum_over (λ p. f p + g p) ps
 spread_both f g [] = omega arith
 spread_both f g (p ∷ ps) = let a = spread_both f g ps in let b = copies_long (f p) p (spread f ps) in
     let c = copies_long (g p) p (spread g ps) in omega arith
 
-spread_one : (f : Path → ℕ) (ps : List Path) → length (spread f ps) ≡ sum_over f ps
+pub spread_one : (f : Path → ℕ) (ps : List Path) → length (spread f ps) ≡ sum_over f ps
 spread_one f [] = refl
 spread_one f (p ∷ ps) = let a = spread_one f ps in let b = copies_long (f p) p (spread f ps) in omega arith
 
@@ -165,9 +165,22 @@ copies_most zero p q ps h = omega arith
 copies_most (suc zero) p q ps h = omega arith
 copies_most (suc (suc n)) p q ps h = absurd (omega arith)
 
-spread_most : (f : Path → ℕ) (q : Path) (ps : List Path) → ((p : Path) → f p ≤ 1) → times q (spread f ps) ≤ times q ps
+pub spread_most : (f : Path → ℕ) (q : Path) (ps : List Path) → ((p : Path) → f p ≤ 1) → times q (spread f ps) ≤ times q ps
 spread_most f q [] h = omega arith
 spread_most f q (p ∷ ps) h = let a = spread_most f q ps h in let b = copies_most (f p) p q (spread f ps) (h p) in omega arith
+
+copies_none : (n : ℕ) (p q : Path) (ps : List Path) → one_if (same_path q p) ≡ 0 → times q (copies n p ps) ≡ times q ps
+copies_none zero p q ps e = refl
+copies_none (suc n) p q ps e = let a = copies_none n p q ps e in omega arith
+
+-- a path that weighs nothing is not there
+pub spread_none : (f : Path → ℕ) (q : Path) (ps : List Path) → f q ≡ 0 → times q (spread f ps) ≡ 0
+spread_none f q [] h = refl
+spread_none f q (p ∷ ps) h = go (spread_none f q ps h) (same_path q p) refl
+  where
+    go : times q (spread f ps) ≡ 0 → (b : Bool) → same_path q p ≡ b → times q (spread f (p ∷ ps)) ≡ 0
+    go none_there true e = ap (λ n. times q (copies n p (spread f ps))) (ap f (sym (same_is q p e)) ∙ h) ∙ none_there
+    go none_there false e = copies_none (f p) p q (spread f ps) (ap one_if e) ∙ none_there
 
 whole_most : (j : Job) → one_if_whole j ≤ 1
 whole_most (Whole call) = omega arith
@@ -260,10 +273,20 @@ counted j lies s f run =
     published : (p : Path) → times p (spread one paths) ≤ times p (all_of mine_list s.views)
     published p = let m = spread_most one p paths (λ z. whole_most (get_of j lies z).call.job) in elim
         (stands levels (counts_of j lies) p) [
-          | inl h ↦ (let t = all_tasks j lies (elements (layout_of j) s.words) f.core p h.0 in let a = all_times mine_list s.views p in
-              let b = f.counts.mine p in let c : tally is_there (lies p) ≡ 1 = ap (tally is_there) t.1 in let d = h.1 in omega arith)
+          | inl h ↦ of_known (lies p) refl (f.core.all p h.0) (let d = h.1 in omega arith)
           | inr h ↦ (let d = h.1 in omega arith)
         ]
+      where
+        -- a task was published, and an index is none
+        of_known : (o : Option Lie) → lies p ≡ o → IsKnown j lies p → times p (spread one paths) ≤ 1
+            → times p (spread one paths) ≤ times p (all_of mine_list s.views)
+        of_known (some t) e known once = let a = all_times mine_list s.views p in let b = f.counts.mine p in
+            let c : tally is_there (lies p) ≡ 1 = ap (tally is_there) e in omega arith
+        of_known none e (inl (t, is)) once = absurd (some-ne-none t (sym is ∙ e))
+        of_known none e (inr (t, x, is, at_index)) once =
+            let a : one p ≡ 0 = ap (λ (z : Task (machine_of j.program)). is_task z.call) (get_none j lies p e
+            ∙ (ap (index_in j (parent_of p) (number_of p)) is ∙ ap (index_of j (parent_of p) t.berth.call (number_of p)) at_index)) in
+            let b = spread_none one p paths a in omega arith
 
 -- so a count over the limit shows that the reference run has more tasks
 pub over_limit : (j : Setup) (lies : Lies) (s : State Slots View) → Facts j lies s → TASKS < word_at (layout_of j) s.words drawn_at
@@ -347,10 +370,13 @@ draws opening slots id me j e rest c code i setup live runs next call call_is no
     now : word_at (layout_of j) ws' drawn_at ≡ n + 1
     now = shelf.here (layout_of j) s.words drawn_at (n + 1) tt f.words.wide
 
+    plain : e.looping ≡ false
+    plain = plain_at_fork j lies s f id v at e (at_head v e rest runs) c code next
+
     waits_one : waiting j e.spot.path (lies e.spot.path) ≡ 1
-    waits_one = ap (waiting j e.spot.path) (head_is j lies s f id v at live e rest runs) ∙
+    waits_one = ap (waiting j e.spot.path) (head_is j lies s f id v at live e rest runs plain) ∙
         (ap (λ (z : Task (machine_of j.program)). next_weight (machine_of j.program) is_task (left (machine_of j.program) z))
-        (head_task j lies s f id v at live e rest runs) ∙ (ap (next_weight (machine_of j.program) is_task) next
+        (head_task j lies s f id v at live e rest runs plain) ∙ (ap (next_weight (machine_of j.program) is_task) next
         ∙ ap one_if_whole call_is))
 
     -- no other seat drew for this body
@@ -363,8 +389,8 @@ draws opening slots id me j e rest c code i setup live runs next call call_is no
             let g = ap (λ (z : List Path). times e.spot.path z) no_hands in absurd (omega arith))
         | inr other ↦ (let a = f.drawn.begun k x d e.spot.path (times_in e.spot.path x.draws.hands some_there) in
             let b = tally_alone begun_in is_begun lies s.views id v f.counts.begun at e.spot.path k x other d
-            (let a = one_begun j lies s f id v at live e rest runs in omega arith)
-            (head_begun j lies s f id v at live e rest runs) in absurd (omega arith))
+            (let a = one_begun j lies s f id v at live e rest runs plain in omega arith)
+            (head_begun j lies s f id v at live e rest runs plain) in absurd (omega arith))
       ])
     ])
 
@@ -398,7 +424,7 @@ draws opening slots id me j e rest c code i setup live runs next call call_is no
     }
       where
         first_in : (p : Path) → In p (e.spot.path ∷ []) → 0 < begun_in v p
-        first_in p here = head_begun j lies s f id v at live e rest runs
+        first_in p here = head_begun j lies s f id v at live e rest runs plain
         first_in p (there i) = elim i [ ]
 
     done : (o : ℕ) → o ≤ 1 → n + 1 ≤ TASKS + weigh (λ (x : View). x.draws.over) s.views + o → (0 < o → TASKS < n + 1)
@@ -408,8 +434,14 @@ draws opening slots id me j e rest c code i setup live runs next call call_is no
         (record {
           word = elim f.stopped.word [
             | inl z ↦ inl (stop_stays ∙ z)
-            | inr u ↦ inr
-                (stop_stays ∙ u.0, (let a = u.1 in let b = now in let g = n_is in omega arith))
+            | inr u ↦ inr (
+              stop_stays ∙ u.0,
+              elim u.1 [
+                | inl tasks ↦ inl (let b = now in let g = n_is in omega arith)
+                | inr indexes ↦ inr (let b : word_at (layout_of j) ws' positions_at ≡ word_at (layout_of j) s.words positions_at
+                    = shelf.else (layout_of j) s.words drawn_at positions_at (n + 1) tt tt (λ e. cc) in omega arith)
+              ],
+            )
           ];
         })
         (λ d. stop_stays ∙ (f.fits id v at).stop d)

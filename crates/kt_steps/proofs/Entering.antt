@@ -1,6 +1,7 @@
 -- What each kind of step does to the core that words and views show: which event it enters, that this is enabled there,
 -- and that the core after it is the one that the event makes.
-use Rattle.std.proofs.Common.{◌≡◌, ℕ, suc, ◌*◌, ◌<◌, false, List, set, map, length, sym, refl, ap, ◌∙◌, subst, inl, inr, arith, Option}
+use Rattle.std.proofs.Common.{◌≡◌, ℕ, suc, ◌*◌, ◌<◌, false, List, set, map, length, sym, refl, ap, ◌∙◌, subst, inl, inr, arith, Option, ◌+◌}
+use lib.ListN.{get_elem?}
 use mathlib.Core.Option.{some}
 use Rattle.atomic_table.specs.Table.{State}
 use Rattle.kt_law.specs.Acts.{Act}
@@ -28,8 +29,9 @@ use Rattle.kt_rule.specs.declared.views.Spot.{Spot}
 use Rattle.kt_rule.specs.declared.views.View.{View}
 use Rattle.kt_rule.specs.Lists.{In, here}
 use Rattle.kt_rule.specs.Paths.{put}
-use Rattle.kt_rule.specs.Lies.{Waits, Promised, Runs, Lie, Lies, phase_of, is_gone, stand_of, index_in, task_of, get_of, core_of, counts_of, forks_of}
+use Rattle.kt_rule.specs.Lies.{Waits, Promised, Runs, Lie, Lies, phase_of, is_gone, stand_of, index_in, task_of, get_of, core_of, counts_of, forks_of, index_of}
 use Rattle.kt_rule.specs.Records.{layout_of, word_at, elements, own_record, state_of, fork_in, frame_in}
+use Rattle.kt_rule.specs.Views.{indexes_of}
 use Rattle.kt_rule.specs.Facts.{IsSo, Fits}
 use Rattle.kt_rule.specs.Rule.{Slots, Facts}
 use Rattle.kt_steps.specs.CoreMoves.{Move, Stays, Claims, Acts, Forks, Finishes, after_move, CanMove, MovesBy}
@@ -39,7 +41,7 @@ use Rattle.kt_rule.proofs.Puts.{no_index, get_put, get_at}
 use Rattle.kt_rule.proofs.Shelf.{elements_else}
 use Rattle.kt_rule.proofs.Words.{state_one, state_pos, word_parts}
 use Rattle.kt_steps.proofs.Claiming.{waits_of, state_there, worker_below}
-use Rattle.kt_steps.proofs.Steps.{state_fits, take_all, in_order, by_notes, won_run, won_promise, start_given, head_in, head_is, head_agrees, head_task, head_running, u5_is, after_is, does_now, ends_now}
+use Rattle.kt_steps.proofs.Steps.{state_fits, take_all, in_order, by_notes, won_run, won_promise, start_given, head_in, head_is, head_agrees, head_task, head_running, u5_is, after_is, does_now, ends_now, at_head, plain_at_act, plain_at_fork, head_single}
 use Rattle.kt_steps.proofs.Fresh.{publish_after, publish_now}
 use Rattle.kt_steps.proofs.Showing.{shown_is}
 
@@ -59,7 +61,7 @@ pub nothing_moves : (j : Setup) (lies : Lies) (s s' : State Slots View) → Fact
 nothing_moves j lies s s' f g same = moves j Stays lies lies s s' f g tt (ap (core_of j lies) same)
 
 module _ (j : Setup) (lies : Lies) (s s' : State Slots View) (f : Facts j lies s) (p : Path) (t : Lie) (is : lies p ≡ some t) (u : Lie)
-    (same_indexes : u.indexes ≡ t.indexes) (g : Facts j (put lies p (some u)) s') where
+    (same_berth : u.berth ≡ t.berth) (same_indexes : u.indexes ≡ t.indexes) (g : Facts j (put lies p (some u)) s') where
   abbrev T : Type 0
   T = Task (machine_of j.program)
 
@@ -67,8 +69,7 @@ module _ (j : Setup) (lies : Lies) (s s' : State Slots View) (f : Facts j lies s
   got = get_at j lies p t is
 
   changed : get_of j (put lies p (some u)) ≡ set_at p (task_of j p u) (get_of j lies)
-  changed = get_put j lies p u (λ i. no_index j p i u (same_indexes ∙ f.core.unlooped p t is) ∙ sym
-      (ap (index_in j p i) is ∙ no_index j p i t (f.core.unlooped p t is)))
+  changed = get_put j lies p u (λ i. (λ k. index_of j p (same_berth k).call i (get_elem? (same_indexes k) i)) ∙ sym (ap (index_in j p i) is))
 
   -- the task becomes what an event makes of it
   becomes : (h : T → T) → task_of j p u ≡ h (task_of j p t) → get_of j (put lies p (some u)) ≡ set_at p (h (get_of j lies p))
@@ -167,7 +168,7 @@ claim_own_enters j s (lies, f) id v (at, live) a m at_a before word =
     (ap (λ (b : Berth). state_place l b.at) it.2) (ap (λ (b : Berth). state_word b (S.Running v.worker)) it.2)
     (ap (λ (b : Berth). won_own v (record { berth = b; path = m.path })) it.2) refl (
       (put lies m.path (some u), g),
-      claims_it j lies s _ f m.path t it.1 u refl g refl (ap phase_of waits) earlier
+      claims_it j lies s _ f m.path t it.1 u refl refl g refl (ap phase_of waits) earlier
           (elements_at_record l s.words t.berth.at _ (f.words.inside m.path t it.1)),
     )
 
@@ -228,7 +229,7 @@ claim_for_enters j s (lies, f) id v (at, live) own ns notes_are own_found ready 
               (ap (state_place l) at_is) (λ i. packed_state (record { frame = frame_is i; fork = fork_is i; stand = S.Given thief }))
               refl refl (
                 (put lies p (some u), won),
-                claims_it j lies s _ f p t is u refl won refl (ap phase_of waits) earlier
+                claims_it j lies s _ f p t is u refl refl won refl (ap phase_of waits) earlier
                     (elements_at_record l s.words t.berth.at _ (f.words.inside p t is)),
               ),
         )
@@ -242,7 +243,7 @@ start_enters j s (lies, f) id v (at, live) m rest given_is =
     (state_word m.berth (S.Running v.worker)) (starts v m rest) (starts v m rest)
     (ap (λ (b : Berth). state_place l b.at) h.2) (ap (λ (b : Berth). state_word b (S.Running v.worker)) h.2) refl refl (
       (put lies m.path (some u), g),
-      stays_still j lies s _ f m.path t h.1 u refl g
+      stays_still j lies s _ f m.path t h.1 u refl refl g
           (λ i. record {
             call = whole_at (map suc m.path) t.berth.call;
             phase = phase_of
@@ -254,28 +255,31 @@ start_enters j s (lies, f) id v (at, live) m rest given_is =
 
 pub act_enters : ActEnters
 act_enters j s (lies, f) id v (at, live) e rest runs d next next_is in_e =
-    let l = layout_of j in let g = does_now j lies s f id v at live e rest runs d next next_is in_e in (
+    let l = layout_of j in let plain = plain_at_act j lies s f id v at e (at_head v e rest runs) d next next_is in
+    let g = does_now j lies s f id v at live e rest runs plain d next next_is in_e in (
       (_, g),
-      acts_on j lies s _ f e.spot.path _ (head_is j lies s f id v at live e rest runs) _ refl g
-          (head_running j lies s f id v at live e rest runs) d next
-          (ap (left (machine_of j.program)) (head_task j lies s f id v at live e rest runs) ∙ next_is)
-          (u5_is j lies s f id v at live e rest runs d next next_is in_e)
-          (after_is j lies s f id v at live e rest runs d next next_is in_e),
+      acts_on j lies s _ f e.spot.path _ (head_is j lies s f id v at live e rest runs plain) _ refl refl g
+          (head_running j lies s f id v at live e rest runs plain) d next
+          (ap (left (machine_of j.program)) (head_task j lies s f id v at live e rest runs plain) ∙ next_is)
+          (u5_is j lies s f id v at live e rest runs plain d next next_is in_e)
+          (after_is j lies s f id v at live e rest runs plain d next next_is in_e),
     )
 
 pub finish_enters : FinishEnters
-finish_enters j s (lies, f) id v (at, live) e rest runs fault next children =
-    let l = layout_of j in let g = ends_now j lies s f id v at live e rest runs fault next children in
-    let agrees = head_agrees j lies s f id v at live e rest runs in
-    let t : Lie = ((f.fits id v at).running e (head_in j lies s f id v at live e rest runs)).0 in
-    let is = head_is j lies s f id v at live e rest runs in
+finish_enters j s (lies, f) id v (at, live) e rest runs plain fault next children =
+    let l = layout_of j in let g = ends_now j lies s f id v at live e rest runs plain fault next children in
+    let agrees = head_agrees j lies s f id v at live e rest runs plain in
+    let t : Lie = ((f.fits id v at).running e (head_in j lies s f id v at live e rest runs plain)).0 in
+    let is = head_is j lies s f id v at live e rest runs plain in
     entered_at j (Finishes e.spot.path) (Finishes e.spot.path) s id (state_place l t.berth.at) (state_place l e.spot.berth.at)
     (state_word t.berth S.Finished) (state_word e.spot.berth S.Finished) (ends v e rest) (ends v e rest)
     (ap (λ (b : Berth). state_place l b.at) agrees.berth) (ap (λ (b : Berth). state_word b S.Finished) agrees.berth) refl refl (
       (_, g),
-      finishes_it j lies s _ f e.spot.path t is _ refl g (head_running j lies s f id v at live e rest runs) fault
-          (ap (left (machine_of j.program)) (head_task j lies s f id v at live e rest runs) ∙ next) refl
-          (λ k less. let n : counts_of j lies e.spot.path ≡ e.forks = ap (forks_of j) (get_at j lies e.spot.path t is) ∙ agrees.forks in
+      finishes_it j lies s _ f e.spot.path t is _ refl refl g (head_running j lies s f id v at live e rest runs plain) fault
+          (ap (left (machine_of j.program)) (head_task j lies s f id v at live e rest runs plain) ∙ next) refl
+          (λ k less. let n : counts_of j lies e.spot.path ≡ e.forks + indexes_of e = ap (forks_of j) (get_at j lies e.spot.path t is)
+          ∙ agrees.forks in
+          let single = head_single j lies s f id v at live e rest runs plain in
           let h = (f.fits id v at).known (child e.spot.path k) (children k (omega arith)) in
           ap (λ (z : Task (machine_of j.program)). z.phase) (get_at j lies (child e.spot.path k) h.0 h.1) ∙ h.2)
           (elements_at_record l s.words t.berth.at _ (f.words.inside e.spot.path t is)),
@@ -285,6 +289,7 @@ pub publish_enters : PublishEnters
 publish_enters j s (lies, f) id v (at, live) e rest runs c code next b call_is at_is frame_is topmost fork_is parent_is fits_b built room
     behind draws within_limit =
     let l = layout_of j in let own = (f.fits id v at).own live in
+    let plain = plain_at_fork j lies s f id v at e (at_head v e rest runs) c code next in
     let at_own : b.at ≡ own_record id (length v.region.spots) = at_is ∙ ap (λ (k : ℕ). own_record k (length v.region.spots)) own in
     let g = publish_now j lies s f id v at live e rest runs c code next b call_is at_own frame_is topmost fork_is parent_is fits_b built
     room behind draws within_limit in
@@ -292,14 +297,14 @@ publish_enters j s (lies, f) id v (at, live) e rest runs c code next b call_is a
     built room behind draws within_limit in (
       (_, g),
       moves j (Forks e.spot.path c) lies _ s _ f g (
-        f.core.there e.spot.path _ (head_is j lies s f id v at live e rest runs),
+        f.core.there e.spot.path _ (head_is j lies s f id v at live e rest runs plain),
         ap (λ (z : Task (machine_of j.program)). z.phase)
-            (get_at j lies e.spot.path _ (head_is j lies s f id v at live e rest runs))
-            ∙ head_running j lies s f id v at live e rest runs,
+            (get_at j lies e.spot.path _ (head_is j lies s f id v at live e rest runs plain))
+            ∙ head_running j lies s f id v at live e rest runs plain,
         (
           code,
-          ap (left (machine_of j.program)) (get_at j lies e.spot.path _ (head_is j lies s f id v at live e rest runs)
-              ∙ head_task j lies s f id v at live e rest runs) ∙ next,
+          ap (left (machine_of j.program)) (get_at j lies e.spot.path _ (head_is j lies s f id v at live e rest runs plain)
+              ∙ head_task j lies s f id v at live e rest runs plain) ∙ next,
         ),
       )
           after,

@@ -33,12 +33,12 @@ use Rattle.kt_rule.specs.declared.views.Promise.{Promise}
 use Rattle.kt_rule.specs.declared.views.Region.{Region}
 use Rattle.kt_rule.specs.declared.views.View.{View}
 use Rattle.kt_rule.specs.Paths.{put}
-use Rattle.kt_rule.specs.Lists.{times, one_if, In, here, there}
-use Rattle.kt_rule.specs.Weights.{next_weight, is_task, one_if_whole}
+use Rattle.kt_rule.specs.Lists.{times, one_if, In, here, there, weigh}
+use Rattle.kt_rule.specs.Weights.{next_weight, is_task, one_if_whole, is_index, forks_ahead, one_if_index}
 use Rattle.kt_rule.specs.Lies.{Stage, Waits, Runs, Lie, Lies, phase_of, is_gone, task_of, get_of, core_of, counts_of, forks_of, Cored}
 use Rattle.kt_rule.specs.Records.{layout_of, word_at, elements, drawn_at, positions_at, stop_at, own_record, state_of, field_of, task_field, frame_floor}
-use Rattle.kt_rule.specs.Views.{path_of, promise_path, mine_in, given_in, begun_in, drawn_in, frames, roots, children}
-use Rattle.kt_rule.specs.Facts.{is_there, is_claimed, is_promised, is_given, is_begun, tally, Sound, IsHeadAt, IsAccessAt, IsLeft, Words, task_in, Agrees, IsUnderWay, IsOver, IsPublished, IsGiven, IsOwn, Owns, Fits, waiting, Drawn}
+use Rattle.kt_rule.specs.Views.{path_of, promise_path, mine_in, given_in, begun_in, drawn_in, frames, roots, children, indexes_of}
+use Rattle.kt_rule.specs.Facts.{is_there, is_claimed, is_promised, is_given, is_begun, tally, Sound, IsHeadAt, IsAccessAt, IsLeft, Words, task_in, Agrees, IsUnderWay, IsOver, IsPublished, IsGiven, IsOwn, Owns, Fits, waiting, Drawn, waiting_indexes}
 use Rattle.kt_rule.specs.Requests.{IsPromised}
 use Rattle.kt_rule.specs.Rule.{Slots, Facts, Holds}
 use Rattle.kt_rule.specs.Steps.{Tells, state_place, state_word, forked_one, next_of, published, IsBehind, Publishes, new_lie, IsBerth, IsBuilt}
@@ -51,9 +51,9 @@ use Rattle.kt_rule.proofs.Cores.{child_one, not_child}
 use Rattle.kt_rule.proofs.Words.{Same, same_lie, same_at, same_frame, Keeps, note_keeps, berth_keeps, known_keeps, IsPlain, Quiet, above_floor, below_next}
 use Rattle.kt_rule.specs.LoopFacts.{is_early}
 use Rattle.kt_rule.proofs.LoopsStay.{SameLoop, same_loop, IsNewTask, LoopsStay, looped_keeps}
-use Rattle.kt_rule.proofs.Moves.{at_below, each_view, SamePosted, quiet_own, asked_keeps, stopped_quiet, fits_keep, positive_not, assemble}
+use Rattle.kt_rule.proofs.Moves.{at_below, each_view, SamePosted, quiet_own, asked_keeps, stopped_quiet, fits_keep, positive_not, assemble, positions_keeps}
 use Rattle.kt_steps.proofs.Asides.{seat_in, main_lives}
-use Rattle.kt_steps.proofs.Steps.{inside, holds_so, child_less, runs_unposted, waits_unposted, head_is, head_agrees, head_runs, head_task, head_live, head_sound, head_running, head_begun, head_alone, once_begun, was_begun, rest_keeps, halted_keeps, ran_keeps, promises_keep, given_keeps}
+use Rattle.kt_steps.proofs.Steps.{inside, holds_so, child_less, runs_unposted, waits_unposted, head_is, head_agrees, head_runs, head_task, head_live, head_sound, head_running, head_begun, head_alone, once_begun, was_begun, rest_keeps, halted_keeps, ran_keeps, promises_keep, given_keeps, at_head, plain_at_fork, head_single}
 
 -- places of a list with one element more
 pub snoc_at : {A : Type 0} (xs : List A) (y : A) (k : ℕ) (x : A) → get_elem? (xs ++ y ∷ []) k ≡ some x
@@ -92,17 +92,20 @@ module _ (j : Setup) (lies : Lies) (s : State Slots View) (f : Facts j lies s) (
   abbrev fit : Fits j lies s.words id v
   fit = f.fits id v at
 
+  pub plain : e.looping ≡ false
+  plain = plain_at_fork j lies s f id v at e (at_head v e rest runs) c code next
+
   abbrev t : Lie
-  t = (fit.running e (Rattle.kt_steps.proofs.Steps.head_in j lies s f id v at live e rest runs)).0
+  t = (fit.running e (Rattle.kt_steps.proofs.Steps.head_in j lies s f id v at live e rest runs plain)).0
 
   is : lies p ≡ some t
-  is = head_is j lies s f id v at live e rest runs
+  is = head_is j lies s f id v at live e rest runs plain
 
   agrees : Agrees j e t
-  agrees = head_agrees j lies s f id v at live e rest runs
+  agrees = head_agrees j lies s f id v at live e rest runs plain
 
   stage_runs : (k : ℕ) × (t.stage ≡ Runs k)
-  stage_runs = head_runs j lies s f id v at live e rest runs
+  stage_runs = head_runs j lies s f id v at live e rest runs plain
 
   t_live : is_gone t.stage ≡ false
   t_live = ap is_gone stage_runs.1
@@ -138,10 +141,14 @@ module _ (j : Setup) (lies : Lies) (s : State Slots View) (f : Facts j lies s) (
   runs_now = ap phase_of stage_runs.1
 
   next_lie : left m (task_of j p t) ≡ Fork c code
-  next_lie = ap (left m) (head_task j lies s f id v at live e rest runs) ∙ next
+  next_lie = ap (left m) (head_task j lies s f id v at live e rest runs plain) ∙ next
 
   n_is : n ≡ e.forks
-  n_is = ap (forks_of j) (get_at j lies p t is) ∙ agrees.forks
+  n_is = let a = ap (forks_of j) (get_at j lies p t is) in let b = agrees.forks in
+      let d = head_single j lies s f id v at live e rest runs plain in omega arith
+
+  pub unlooped : t.indexes ≡ []
+  unlooped = ((f.looped.booked p t is).early (ap is_early stage_runs.1)).0
 
   sound_t : Sound p t
   sound_t = f.words.sound p t is
@@ -185,11 +192,11 @@ module _ (j : Setup) (lies : Lies) (s : State Slots View) (f : Facts j lies s) (
 
   core_now : Cored j lies2 (elements l ws')
   core_now = subst (Cored j lies2) (sym (elements_else l s.words qs (packed_state (state_of x)) in_q tt))
-      (cores.forks j f.laws lies (elements l s.words) f.core p t is runs_now c code next_lie has_room t2 x refl refl refl
+      (cores.forks j f.laws lies (elements l s.words) f.core p t is runs_now c code next_lie has_room unlooped t2 x refl refl refl
       (λ i. record { call = sym path_is i; phase = Unclaimed; answers = []; done = 0 }))
 
   no_child : lies q ≡ none
-  no_child = cores.no_child j f.laws lies (elements l s.words) f.core p t is runs_now c code next_lie has_room
+  no_child = cores.no_child j f.laws lies (elements l s.words) f.core p t is runs_now c code next_lie has_room unlooped
 
   no_child1 : lies1 q ≡ none
   no_child1 = put_else lies p (some t2) q (not_child p n) ∙ no_child
@@ -292,7 +299,8 @@ module _ (j : Setup) (lies : Lies) (s : State Slots View) (f : Facts j lies s) (
   siblings : (k : ℕ) (y : Lie) → lies (child p k) ≡ some y → (is_gone y.stage ≡ false) × (y.berth.frame ≡ b.frame)
       × (y.berth.at + n ≡ b.at + k)
   siblings k y d = elim behind [
-    | inl none_yet ↦ (let h = child_less j lies (elements l s.words) f.core p t y k is d in let g = agrees.forks in absurd (omega arith))
+    | inl none_yet ↦ (let h = child_less j lies (elements l s.words) f.core p t y k is d in let g = agrees.forks in
+        let single = head_single j lies s f id v at live e rest runs plain in absurd (omega arith))
     | inr (i, a, o, forks_is, long_is, last_is, path_o) ↦ (
         let own = owns.spots a o last_is in
         let there_o : lies (child p i) ≡ some own.1.0 = ap lies (sym path_o) ∙ own.1.1 in
@@ -300,7 +308,7 @@ module _ (j : Setup) (lies : Lies) (s : State Slots View) (f : Facts j lies s) (
         let bs2 = bs.2 in let own0 = own.0 in let o_at : own.1.0.berth.at ≡ o.berth.at = ap (λ (z : Berth). z.at) own.1.2 in
         let d_n = n_is in let b_at = at_is in (
           bs.0 ∙ own.1.3,
-          owns.framed e (Rattle.kt_steps.proofs.Steps.head_in j lies s f id v at live e rest runs) k y d
+          owns.framed e (Rattle.kt_steps.proofs.Steps.head_in j lies s f id v at live e rest runs plain) k y d
               ∙ sym frame_is,
           omega arith,
         ))
@@ -449,7 +457,7 @@ module _ (j : Setup) (lies : Lies) (s : State Slots View) (f : Facts j lies s) (
       none_below : (i : ℕ) (z : Lie) → lies (child q i) ≡ some z → ⊥
       none_below i z d = let h = Rattle.kt_order.proofs.PathThere.there_child levels (counts_of j lies) q i
           (f.core.there (child q i) z d) in
-          let y = cores.all_tasks j lies (elements l s.words) f.core q h.0 in some-ne-none y.0 (sym y.1 ∙ no_child)
+          let y = cores.child_lies j lies (elements l s.words) f.core p t is unlooped n h.0 in some-ne-none y.0 (sym y.1 ∙ no_child)
 
   -- REGIONS
 
@@ -518,7 +526,7 @@ module _ (j : Setup) (lies : Lies) (s : State Slots View) (f : Facts j lies s) (
         (λ (g : r ≡ forked_one e). of_head a u (ap (λ (z : Execution). lies2 (child z.spot.path a)) (sym g) ∙ d) ∙ ap
         (λ (z : Execution). z.frame) (sym g))
         (λ (g : In r rest). elim (at2 (child r.spot.path a) u d) [
-          | inl h ↦ absurd (not_among path_of rest p (let z = once_begun j lies s f id v at live e rest runs in omega arith) r g
+          | inl h ↦ absurd (not_among path_of rest p (let z = once_begun j lies s f id v at live e rest runs plain in omega arith) r g
               (sym (child_one p r.spot.path n a h.0).0))
           | inr h ↦ same_frame h.z u h.same ∙ owns.framed r (subst (In r) (sym runs) (there g)) a h.z h.is
         ]) (in_cons r (forked_one e) rest i);
@@ -568,10 +576,11 @@ module _ (j : Setup) (lies : Lies) (s : State Slots View) (f : Facts j lies s) (
       berth = agrees.berth;
       answers = agrees.answers;
       count = ap suc agrees.count;
-      forks = cores.forks_one j f.laws lies (elements l s.words) f.core p t is runs_now c code next_lie has_room t2 refl
-          ∙ ap suc agrees.forks;
+      indexes = agrees.indexes;
+      forks = cores.forks_one j f.laws lies (elements l s.words) f.core p t is runs_now c code next_lie has_room unlooped t2 refl
+          ∙ (ap suc agrees.forks ∙ (let z : suc (e.forks + indexes_of e) ≡ suc e.forks + indexes_of e = omega arith in z));
     },
-    stage_runs,
+    (fit.running e (Rattle.kt_steps.proofs.Steps.head_in j lies s f id v at live e rest runs plain)).3,
   )
 
   fits_own : Fits j lies2 ws' id w
@@ -580,12 +589,12 @@ module _ (j : Setup) (lies : Lies) (s : State Slots View) (f : Facts j lies s) (
     own = fit.own;
     owns = λ h. owns_own;
     running = λ o i. ⊎_elim (λ (h : o ≡ forked_one e). subst (IsUnderWay j lies2) (sym h) forked_under)
-        (λ (h : In o rest). under2 o (rest_keeps j lies s f id v at live e rest runs t2 o h)) (in_cons o (forked_one e) rest i);
-    halted = λ o i. under2 o (halted_keeps j lies s f id v at live e rest runs t2 o i);
-    ran = λ o i. over2 o (ran_keeps j lies s f id v at live e rest runs t2 o i);
+        (λ (h : In o rest). under2 o (rest_keeps j lies s f id v at live e rest runs plain t2 o h)) (in_cons o (forked_one e) rest i);
+    halted = λ o i. under2 o (halted_keeps j lies s f id v at live e rest runs plain t2 o i);
+    ran = λ o i. over2 o (ran_keeps j lies s f id v at live e rest runs plain t2 o i);
     begun = let a = fit.begun in let k = ap (λ (z : List Execution). length z) runs in omega arith;
     mine = mine_now;
-    given = λ o i. given2 o (given_keeps j lies s f id v at live e rest runs t2 o i);
+    given = λ o i. given2 o (given_keeps j lies s f id v at live e rest runs plain t2 o i);
     known = λ o i. known_keeps l lies s.words lies2 ws' keeps2 o (fit.known o i);
     notes = λ o i. note_keeps l lies s.words lies2 ws' keeps2 o (fit.notes o i);
     stop = λ i. quiet2 stop_at tt tt ∙ fit.stop i;
@@ -598,7 +607,7 @@ module _ (j : Setup) (lies : Lies) (s : State Slots View) (f : Facts j lies s) (
 
   fits_other : (k : ℕ) (u : View) → k ≢ id → get_elem? s.views k ≡ some u → Fits j lies2 ws' k u
   fits_other k u ne d =
-      let a = head_alone j lies s f id v at live e rest runs k u ne d in let a0 = a.0 in let a1 = a.1 in
+      let a = head_alone j lies s f id v at live e rest runs plain k u ne d in let a0 = a.0 in let a1 = a.1 in
       fits_keep j lies s.words lies2 ws' keeps2 k u (f.fits k u d)
       (owns_other k u.region u.tasks.running u.tasks.begun ne (seat_in j lies s f k u d)
       (not_among path_of u.tasks.running p (omega arith)))
@@ -713,6 +722,22 @@ module _ (j : Setup) (lies : Lies) (s : State Slots View) (f : Facts j lies s) (
         (λ h. let d = f.drawn.crossed id v at h in omega arith) (λ k y ne d h. let g = f.drawn.crossed k y d h in omega arith);
   }
 
+  -- what a body that forked tasks has still to fork of indexes
+  more_waits : (o : Path) → waiting_indexes j o (lies o) ≤ waiting_indexes j o (lies2 o)
+  more_waits o = elim (put_cases lies1 q (some x) o) [
+    | inl g ↦ (let d : waiting_indexes j o (lies o) ≡ 0 = ap (waiting_indexes j o) (ap lies (sym g.0) ∙ no_child) in omega arith)
+    | inr g ↦ (elim (put_cases lies p (some t2) o) [
+      | inl i ↦ (let d : waiting_indexes j o (lies o) ≡ is_index c + forks_ahead m is_index code
+          = (λ k. waiting_indexes j (sym i.0 k) (lies (sym i.0 k))) ∙ (ap (waiting_indexes j p) is ∙ ap (forks_ahead m is_index) next_lie) in
+          let z : is_index c ≡ 0 = ap one_if_index call_is in
+          let y : waiting_indexes j o (lies2 o) ≡ forks_ahead m is_index code = ap (waiting_indexes j o) (g.1 ∙ i.1)
+          ∙ (ap (λ (k : Path). waiting_indexes j k (some t2)) (sym i.0) ∙ ap (forks_ahead m is_index)
+          (cores.forks_left j f.laws lies (elements l s.words) f.core p t is runs_now c code next_lie has_room unlooped t2 refl)) in
+          omega arith)
+      | inr i ↦ (let d : waiting_indexes j o (lies2 o) ≡ waiting_indexes j o (lies o) = ap (waiting_indexes j o) (g.1 ∙ i.1) in omega arith)
+    ])
+  ]
+
   pub publish_now : Facts j lies2 record { words = ws'; homes = s.homes; views = set s.views id w }
   publish_now = assemble j lies lies2 s ws' id v w f at live (record {
     parts = refl;
@@ -728,13 +753,16 @@ module _ (j : Setup) (lies : Lies) (s : State Slots View) (f : Facts j lies s) (
     mine = mine_more;
     claimed = λ o. let a = tally_new is_claimed refl o in omega arith;
     given = λ o. let a = tally_new is_given refl o in omega arith;
-    begun = λ o. let a = tally_new is_begun refl o in let k = was_begun j lies s f id v at live e rest runs o in omega arith;
+    begun = λ o. let a = tally_new is_begun refl o in let k = was_begun j lies s f id v at live e rest runs plain o in omega arith;
     asked = asked_keeps l lies lies2 s.words ws' s.views id v w f.asked f.counts.few at refl refl
         (quiet_own l s.words ws' quiet2) posted2 (λ o. let a = tally_new is_promised refl o in omega arith)
-        (λ o i. promised2 o (promises_keep j lies s f id v at live e rest runs t2 o i))
-        (λ k u ne d o i. let h = f.asked.promises k u d o i in let a = head_alone j lies s f id v at live e rest runs k u ne d in
+        (λ o i. promised2 o (promises_keep j lies s f id v at live e rest runs plain t2 o i))
+        (λ k u ne d o i. let h = f.asked.promises k u d o i in let a = head_alone j lies s f id v at live e rest runs plain k u ne d in
         (h.0, stay2 o.spot.path h.0 h.1 (not_among promise_path u.tasks.promised p a.2 o i), h.2, h.3));
     drawn = drawn2;
+    positions = positions_keeps j lies lies2 s.words ws' s.views id v w f.positions at
+        (let a = ap (λ (z : List Execution). weigh indexes_of (z ++ (v.tasks.halted ++ v.tasks.ran))) runs in omega arith) refl
+        (λ o h. let k = was_begun j lies s f id v at live e rest runs plain o in omega arith) (quiet2 positions_at tt tt) more_waits;
     stopped = stopped_quiet l s.words ws' quiet2 f.stopped;
     looped = looped_keeps l lies lies2 s.words ws' s.views id v w f.looped loops2 at refl (quiet2 positions_at tt tt)
         (quiet_own l s.words ws' quiet2);
@@ -748,7 +776,7 @@ module _ (j : Setup) (lies : Lies) (s : State Slots View) (f : Facts j lies s) (
   pub publish_after : core_of j lies2 (elements l ws') ≡ Rattle.kt_runs.specs.ByPath.after_fork j.program c p
       (core_of j lies (elements l s.words))
   publish_after = λ i. record {
-    get = cores.forked_tasks j f.laws lies (elements l s.words) f.core p t is runs_now c code next_lie has_room t2 x refl refl refl
+    get = cores.forked_tasks j f.laws lies (elements l s.words) f.core p t is runs_now c code next_lie has_room unlooped t2 x refl refl refl
         (λ k. record { call = sym path_is k; phase = Unclaimed; answers = []; done = 0 }) i;
     store = elements_else l s.words qs (packed_state (state_of x)) in_q tt i;
   }

@@ -8,7 +8,9 @@ pub mod Fresh
 pub mod Drawing
 pub mod LoopSeats
 pub mod Seats
+pub mod Indexed
 pub mod Showing
+pub mod DrawnPositions
 pub mod Closing
 pub mod Entering
 pub mod Telling

@@ -31,7 +31,7 @@ use Rattle.kt_rule.specs.Steps.{Tells, state_place, going, note_of, paths_at, le
 use Rattle.kt_rule.proofs.Sums.{in_cons, in_append}
 use Rattle.kt_rule.proofs.Words.{word_parts, above_floor, never_empty, says_state, says_field}
 use Rattle.kt_rule.proofs.Moves.{learned}
-use Rattle.kt_steps.proofs.Steps.{set_word, same_state, inside, holds_so}
+use Rattle.kt_steps.proofs.Steps.{set_word, same_state, inside, holds_so, runs_live}
 
 load_holds : (opening : List ℕ) (j : Setup) (lies : Lies) (s : State Slots View) (i id : ℕ) (c : List (ℕ × Slots)) (w : View)
     → Facts j lies record { words = s.words; homes = s.homes; views = set s.views id w }
@@ -318,7 +318,7 @@ pub looks_running : (opening : List ℕ) (slots id : ℕ) (me : Me Slots View) (
 looks_running opening slots id me j e f x i setup live runs field i_is s h _ at _ =
     let y = inside opening s j id me.0 h at live setup in let g = (y.1.fits id me.0 at).running e runs in
     shows opening slots id me s i x h at (ap (slice_index s.words) i_is ∙ field_there j y.0 s y.1 e.spot.berth e.spot.path g.0 g.1
-    (ap is_gone g.3.1) g.2.berth f x field)
+    (ap is_gone g.3.1 ∙ runs_live e.looping g.3.0) g.2.berth f x field)
 
 -- and the state word of a task that lies there
 state_shown : (opening : List ℕ) (slots id : ℕ) (me : Me Slots View) (s : State Slots View) (i : ℕ) (j : Setup) (lies : Lies)
@@ -373,4 +373,4 @@ pub looks_running_state : (opening : List ℕ) (slots id : ℕ) (me : Me Slots V
     → Allows (Holds opening) slots id me i (λ n. n) (Tells (ShowsState e.spot.berth) (step slots i 0 0 none) me)
 looks_running_state opening slots id me j e i setup live runs i_is s h _ at _ =
     let y = inside opening s j id me.0 h at live setup in let g = (y.1.fits id me.0 at).running e runs in
-    state_shown opening slots id me s i j y.0 h y.1 at e.spot.berth e.spot.path g.0 g.1 (ap is_gone g.3.1) g.2.berth i_is
+    state_shown opening slots id me s i j y.0 h y.1 at e.spot.berth e.spot.path g.0 g.1 (ap is_gone g.3.1 ∙ runs_live e.looping g.3.0) g.2.berth i_is

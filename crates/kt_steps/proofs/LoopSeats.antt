@@ -20,7 +20,7 @@ use Rattle.kt_rule.specs.Lies.{Lie, Lies}
 use Rattle.kt_rule.specs.Records.{word_at, positions_at}
 use Rattle.kt_rule.specs.Views.{no_loops}
 use Rattle.kt_rule.specs.LoopWords.{LoopWords, Hand, pair_in, piece_in, own_word, loop_words, hand_of, hands_of, sum_below}
-use Rattle.kt_rule.specs.LoopFacts.{in_hand, in_pair, in_given, index_times, piece_is, shown_pieces, IsUnder, IsSeen, Handles, Looped}
+use Rattle.kt_rule.specs.LoopFacts.{in_hand, in_pair, in_given, index_times, piece_is, shown_pieces, IsUnder, IsSeen, over_long, Handles, Looped}
 use Rattle.kt_rule.proofs.Sums.{in_cons}
 use Rattle.kt_rule.proofs.LoopsStay.{sum_zero, no_piece, place_of}
 
@@ -58,6 +58,7 @@ pub record From (views : List View) (loops : LoopHands) : Type 0 where
   pub pieces : (x : Share) → In x loops.pieces → (k : ℕ) × (v : View) × (get_elem? views k ≡ some v) × In x v.loops.pieces
   pub taken : (e : IndexRun) → In e loops.taken → (k : ℕ) × (v : View) × (get_elem? views k ≡ some v) × In e v.loops.taken
   pub retired : (e : IndexRun) → In e loops.retired → (k : ℕ) × (v : View) × (get_elem? views k ≡ some v) × In e v.loops.retired
+  pub emptied : (p : Path) → In p loops.emptied → (k : ℕ) × (v : View) × (get_elem? views k ≡ some v) × In p v.loops.emptied
 
 pub from_self : (views : List View) (k : ℕ) (v : View) → get_elem? views k ≡ some v → From views v.loops
 from_self views k v at = record {
@@ -65,6 +66,7 @@ from_self views k v at = record {
   pieces = λ x i. (k, v, at, i);
   taken = λ e i. (k, v, at, i);
   retired = λ e i. (k, v, at, i);
+  emptied = λ p i. (k, v, at, i);
 }
 
 pub from_none : (views : List View) → From views no_loops
@@ -73,6 +75,7 @@ from_none views = record {
   pieces = λ x i. elim i [ ];
   taken = λ e i. elim i [ ];
   retired = λ e i. elim i [ ];
+  emptied = λ p i. elim i [ ];
 }
 
 -- what a live view says of its own words, and of a victim, the view in its place said before; or the seat is a new one
@@ -98,7 +101,11 @@ pub record Rearranged (workers : ℕ) (s : LoopWords) (views views' : List View)
       ≡ weigh (λ (v : View). index_times p i v.loops.retired) views
   pub left : (p : Path) → weigh (λ (v : View). retired_with p v) views' ≡ weigh (λ (v : View). retired_with p v) views
   pub over : weigh (λ (v : View). v.loops.over) views' ≡ weigh (λ (v : View). v.loops.over) views
+  pub beyond : weigh (λ (v : View). over_long (hand_of v)) views ≤ weigh (λ (v : View). over_long (hand_of v)) views'
   pub from : (k : ℕ) (w : View) → get_elem? views' k ≡ some w → From views w.loops
+  -- what is pending with a seat whose record tells the first position is what was
+  pub placed : (k : ℕ) (w : View) → get_elem? views' k ≡ some w → w.loops.placed ≡ true
+      → (v : View) × (get_elem? views k ≡ some v) × (v.loops.placed ≡ true) × (w.loops.pending ≡ v.loops.pending)
   pub own : (k : ℕ) (w : View) → get_elem? views' k ≡ some w → SaysOwn workers views k w
   pub overs : (k : ℕ) (w : View) → get_elem? views' k ≡ some w → w.loops.over ≤ w.parts
   pub held : (k : ℕ) (w : View) → get_elem? views' k ≡ some w → w.loops.over ≤ length w.loops.pending
@@ -140,6 +147,8 @@ module _ (workers : ℕ) (lies : Lies) (s : LoopWords) (views views' : List View
     pieces = λ x i. let y = from.pieces x i in (handles_of y.0 y.1 y.2).pieces x y.3;
     taken = λ x i. let y = from.taken x i in (handles_of y.0 y.1 y.2).taken x y.3;
     retired = λ x i. let y = from.retired x i in (handles_of y.0 y.1 y.2).retired x y.3;
+    placed = λ told x i. let y = r.placed k w e told in (handles_of k y.0 y.1).placed y.2 x (subst (In x) y.3 i);
+    emptied = λ p i. let y = from.emptied p i in (handles_of y.0 y.1 y.2).emptied p y.3;
     free = λ live d. elim (r.own k w e live) [
       | inl (v, at, lives, free, home, sight) ↦ (handles_of k v at).free lives (sym free ∙ d)
       | inr (new, less, home, sight) ↦ (f.unmade k (let a = hands_long views in omega arith) less).0
@@ -177,4 +186,5 @@ module _ (workers : ℕ) (lies : Lies) (s : LoopWords) (views views' : List View
         subst (Handles workers lies f.owner s (hands_of views') k) w.2 (handles_now k w.0 w.1);
     unmade = λ k from less. f.unmade k (let a = hands_long views in let b = hands_long views' in let c = r.longer in omega arith) less;
     bound = let a = f.bound in let b = sum_of (λ (h : Hand). h.loops.over) r.over in omega arith;
+    beyond = let a = f.beyond in let b = r.beyond in let c = weigh_hands over_long views in let d = weigh_hands over_long views' in omega arith;
   }

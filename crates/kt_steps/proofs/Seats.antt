@@ -1,5 +1,5 @@
 -- The opening, seats that are made and joined, and the close.
-use Rattle.std.proofs.Common.{◌≡◌, ◌≢◌, ℕ, zero, suc, ◌+◌, ◌-◌, ◌*◌, ◌<◌, ◌≤◌, ◌⊎◌, ◌||◌, Bool, true, false, cond, nat_lt, List, [], ◌∷◌, ◌++◌, set, map, length, sym, refl, ap, ◌∙◌, subst, inl, inr, arith, ⊎_elim, length-set, Some, None}
+use Rattle.std.proofs.Common.{◌≡◌, ◌≢◌, ℕ, zero, suc, ◌+◌, ◌-◌, ◌*◌, ◌<◌, ◌≤◌, ◌⊎◌, ◌||◌, Bool, true, false, cond, nat_eq, nat_lt, List, [], ◌∷◌, ◌++◌, set, map, length, sym, refl, ap, ◌∙◌, subst, inl, inr, arith, ⊎_elim, length-set, Some, None}
 use Rattle.std.proofs.lemmas.List.{map-append, length-append}
 use mathlib.Core.Option as o
 use mathlib.Core.Path.{fun_ext}
@@ -7,6 +7,7 @@ use Rattle.std.proofs.lemmas.Bool.Decides.{nat_tests}
 use mathlib.Core.Option.{none, some, some-injective, some-ne-none}
 use native.Mathlib.Decide.{ℕ_discrete}
 use lib.ListN.{get_elem?}
+use Rattle.std.proofs.lemmas.Bool.{eqb-true}
 use Rattle.atomic_table.specs.Table.{State, Me, keeps, step, Allows, Splits, Joins}
 use Rattle.atomic_table.proofs.Lists.{at_set}
 use Rattle.kt_law.specs.declared.limits.TheConstants.{TASKS, INDEXES}
@@ -19,6 +20,7 @@ use Rattle.kt_order.specs.Named.{named}
 use Rattle.kt_order.proofs.Kept as order
 use Rattle.kt_order.proofs.PathsAdd.{grown_none}
 use Rattle.kt_prog.specs.Fits.{is_main}
+use Rattle.kt_prog.specs.Accepted.{IsAccepted}
 use Rattle.kt_prog.specs.Reference.{machine_of, main_placed, opened_with}
 use Rattle.kt_runs.specs.Rights.{rights_in}
 use Rattle.kt_runs.specs.ByPath.{Path, child, levels}
@@ -37,13 +39,13 @@ use Rattle.kt_rule.specs.declared.views.IndexRun.{IndexRun}
 use Rattle.kt_rule.specs.declared.views.View.{View}
 use Rattle.kt_rule.specs.Paths.{put}
 use Rattle.kt_rule.specs.Lists.{weigh, times, In, here, there}
-use Rattle.kt_rule.specs.Lies.{Stage, Waits, Posted, Lie, Lies, is_gone, get_of, core_of, counts_of, forks_of, IsHere}
+use Rattle.kt_rule.specs.Lies.{Stage, Waits, Posted, IndexLie, Lie, Lies, is_gone, get_of, core_of, counts_of, forks_of, IsHere}
 use Rattle.kt_rule.specs.Records.{layout_of, word_at, elements, drawn_at, positions_at, own_record, state_of, access_word, field_of, frame_floor}
-use Rattle.kt_rule.specs.Views.{spot_path, path_of, promise_path, mine_in, claimed_in, promised_in, given_in, begun_in, drawn_in, main_berth, main_spot, blank_view, spent, quiet_desk, roots}
+use Rattle.kt_rule.specs.Views.{spot_path, path_of, promise_path, mine_in, claimed_in, promised_in, given_in, begun_in, drawn_in, indexes_of, share_long, positions_in, pending_in, main_berth, main_spot, blank_view, spent, quiet_desk, roots}
 use Rattle.kt_rule.specs.Facts.{is_there, is_claimed, is_promised, is_given, is_begun, tally, Sound, IsPublished, IsUnderWay, IsOver, IsGiven, IsKnownFinished, IsSo, Owns, Fits, Words, Drawn, Counts}
 use Rattle.kt_rule.specs.Requests.{IsPromised, Desked}
 use Rattle.kt_rule.specs.LoopWords.{LoopWords, Hand, between, pair_in, piece_in, piece_beside, own_word, loop_words, hand_of, hands_of}
-use Rattle.kt_rule.specs.LoopFacts.{in_hand, in_pair, in_given, index_times, is_taken, is_retired, task_tally, retired_of, piece_is, shown_pieces, count_piece, IsBooked, Handles, Looped}
+use Rattle.kt_rule.specs.LoopFacts.{in_hand, in_pair, in_given, index_times, is_taken, is_retired, task_tally, retired_of, piece_is, shown_pieces, count_piece, IsBooked, over_long, Handles, Looped}
 use Rattle.kt_rule.specs.Rule.{Slots, Facts, Holds}
 use Rattle.kt_rule.specs.Steps.{Tells, new_lie}
 use Rattle.kt_rule.specs.Close.{first_view, IsOpening, keeps_most, newcomer, together, Opens}
@@ -121,6 +123,7 @@ pub splits : (opening : List ℕ) (j : Setup) (id : ℕ) (v : View) → v.setup 
     → v.draws.over ≡ 0 → v.loops.over ≡ 0 → Splits (Holds opening) id v (keeps_most v) (newcomer v)
 splits opening j id v setup parts made room none_over none_drawn s hold at = holds_so opening _ j lies (record {
   crew = f.crew;
+  accepted = f.accepted;
   laws = f.laws;
   core = f.core;
   words = f.words;
@@ -165,6 +168,12 @@ splits opening j id v setup parts made room none_over none_drawn s hold at = hol
     crossed = each (λ k x. 0 < x.draws.over → TASKS < word_at (layout_of j) s.words drawn_at) (f.drawn.crossed id v at)
         (λ k x e ne. f.drawn.crossed k x e) (λ some_over. absurd (omega arith));
   };
+  positions = record {
+    count = f.positions.count ∙ sym (sums positions_in refl refl);
+    pending = λ q. let a = sums (λ (x : View). pending_in x q) refl refl in let k = f.positions.pending q in omega arith;
+    begun = each (λ k x. (y : Share) → In y x.loops.pending → 0 < begun_in x y.spot.path) (f.positions.begun id v at)
+        (λ k x e ne. f.positions.begun k x e) (λ y i. elim i [ ]);
+  };
   stopped = f.stopped;
   looped = rearranged j.workers lies (loop_words (layout_of j) s.words) s.views (vs ++ n ∷ []) f.looped (record {
     positions = λ x. sums (λ (y : View). in_hand x (hand_of y)) refl refl;
@@ -173,6 +182,10 @@ splits opening j id v setup parts made room none_over none_drawn s hold at = hol
     retired = λ p i. sums (λ (y : View). index_times p i y.loops.retired) refl refl;
     left = λ p. sums (λ (y : View). retired_with p y) refl refl;
     over = sums (λ (y : View). y.loops.over) refl refl;
+    beyond = let a = sums (λ (y : View). over_long (hand_of y)) refl refl in omega arith;
+    placed = each (λ k x. x.loops.placed ≡ true
+        → (y : View) × (get_elem? s.views k ≡ some y) × (y.loops.placed ≡ true) × (x.loops.pending ≡ y.loops.pending))
+        (λ told. (v, at, told, refl)) (λ k x e ne told. (x, e, told, refl)) (λ told. false_is told);
     from = each (λ k x. From s.views x.loops) (from_self s.views id v at) (λ k x e ne. from_self s.views k x e) (from_none s.views);
     own = each (λ k x. SaysOwn j.workers s.views k x) (λ some_part. inl (v, at, omega arith, refl, refl, refl))
         (λ k x e ne some_part. inl (x, e, some_part, refl, refl, refl))
@@ -271,6 +284,7 @@ pub joins : (opening : List ℕ) (j : Setup) (id : ℕ) (v : View) (other : ℕ)
     → Joins (Holds opening) id v other w (together v w) spent
 joins opening j id v other w setup live unmaker s hold at apart at' = holds_so opening _ j lies (record {
   crew = f.crew;
+  accepted = f.accepted;
   laws = f.laws;
   core = f.core;
   words = f.words;
@@ -328,6 +342,17 @@ joins opening j id v other w setup live unmaker s hold at apart at' = holds_so o
         ])
         (λ k x e. f.drawn.crossed k x e) (λ some_over. absurd (omega arith));
   };
+  positions = record {
+    count = f.positions.count ∙ sym (sums positions_in positions_both refl);
+    pending = λ q. let a = sums (λ (x : View). pending_in x q) (weigh_append _ v.loops.pending w.loops.pending) refl in
+        let k = f.positions.pending q in omega arith;
+    begun = each (λ k x. (y : Share) → In y x.loops.pending → 0 < begun_in x y.spot.path)
+        (λ y i. let g = begun_both y.spot.path in elim (in_append v.loops.pending w.loops.pending y i) [
+          | inl h ↦ (let a = f.positions.begun id v at y h in omega arith)
+          | inr h ↦ (let a = f.positions.begun other w was y h in omega arith)
+        ])
+        (λ k x e. f.positions.begun k x e) (λ y i. elim i [ ]);
+  };
   stopped = f.stopped;
   looped = rearranged j.workers lies (loop_words (layout_of j) s.words) s.views (set vs other spent) f.looped (record {
     positions = λ x. sums (λ (y : View). in_hand x (hand_of y)) (hands_both x) refl;
@@ -336,11 +361,16 @@ joins opening j id v other w setup live unmaker s hold at apart at' = holds_so o
     retired = λ p i. sums (λ (y : View). index_times p i y.loops.retired) (weigh_append _ v.loops.retired w.loops.retired) refl;
     left = λ p. sums (λ (y : View). retired_with p y) (weigh_append _ v.loops.retired w.loops.retired) refl;
     over = sums (λ (y : View). y.loops.over) refl refl;
+    beyond = over_joined;
+    placed = each (λ k x. x.loops.placed ≡ true
+        → (y : View) × (get_elem? s.views k ≡ some y) × (y.loops.placed ≡ true) × (x.loops.pending ≡ y.loops.pending))
+        (λ told. false_is told) (λ k x e told. (x, e, told, refl)) (λ told. false_is told);
     from = each (λ k x. From s.views x.loops) (record {
       pending = λ x i. elim (in_append v.loops.pending w.loops.pending x i) [ inl h ↦ (id, v, at, h) | inr h ↦ (other, w, was, h) ];
       pieces = λ x i. elim (in_append v.loops.pieces w.loops.pieces x i) [ inl h ↦ (id, v, at, h) | inr h ↦ (other, w, was, h) ];
       taken = λ e i. elim (in_append v.loops.taken w.loops.taken e i) [ inl h ↦ (id, v, at, h) | inr h ↦ (other, w, was, h) ];
       retired = λ e i. elim (in_append v.loops.retired w.loops.retired e i) [ inl h ↦ (id, v, at, h) | inr h ↦ (other, w, was, h) ];
+      emptied = λ p i. elim (in_append v.loops.emptied w.loops.emptied p i) [ inl h ↦ (id, v, at, h) | inr h ↦ (other, w, was, h) ];
     }) (λ k x e. from_self s.views k x e) (from_none s.views);
     own = each (λ k x. SaysOwn j.workers s.views k x) (λ some_part. inl (v, at, live, refl, refl, refl))
         (λ k x e some_part. inl (x, e, some_part, refl, refl, refl)) (λ some_part. absurd (omega arith));
@@ -459,6 +489,49 @@ joins opening j id v other w setup live unmaker s hold at apart at' = holds_so o
     begun_both q = let a = both path_of v.tasks.halted (w.tasks.running ++ w.tasks.halted) q in
         let c = both path_of w.tasks.running w.tasks.halted q in let d = both path_of v.tasks.ran w.tasks.ran q in omega arith
 
+    positions_both : positions_in b ≡ positions_in v + positions_in w
+    positions_both =
+        let a = weigh_append indexes_of v.tasks.running ((v.tasks.halted ++ (w.tasks.running ++ w.tasks.halted)) ++ (v.tasks.ran ++ w.tasks.ran)) in
+        let c = weigh_append indexes_of (v.tasks.halted ++ (w.tasks.running ++ w.tasks.halted)) (v.tasks.ran ++ w.tasks.ran) in
+        let d = weigh_append indexes_of v.tasks.halted (w.tasks.running ++ w.tasks.halted) in
+        let e = weigh_append indexes_of w.tasks.running w.tasks.halted in
+        let g = weigh_append indexes_of v.tasks.ran w.tasks.ran in
+        let h = weigh_append indexes_of v.tasks.running (v.tasks.halted ++ v.tasks.ran) in
+        let i = weigh_append indexes_of v.tasks.halted v.tasks.ran in
+        let k = weigh_append indexes_of w.tasks.running (w.tasks.halted ++ w.tasks.ran) in
+        let n = weigh_append indexes_of w.tasks.halted w.tasks.ran in
+        let o = weigh_append share_long v.loops.pending w.loops.pending in omega arith
+
+    -- what was drawn over the limit by either is pending with the one
+    over_joined : weigh (λ (y : View). over_long (hand_of y)) s.views ≤ weigh (λ (y : View). over_long (hand_of y)) (set vs other spent)
+    over_joined =
+        let a = weigh_set (λ (y : View). over_long (hand_of y)) s.views id v b at in
+        let c = weigh_set (λ (y : View). over_long (hand_of y)) vs other w spent at' in
+        let d : weigh share_long (v.loops.pending ++ w.loops.pending) ≡ weigh share_long v.loops.pending + weigh share_long w.loops.pending
+        = weigh_append share_long v.loops.pending w.loops.pending in
+        let e : over_long (hand_of v) + over_long (hand_of w) ≤ over_long (hand_of b)
+        = subst (λ n. over_long (hand_of v) + over_long (hand_of w) ≤ cond (nat_eq (v.loops.over + w.loops.over) 0) 0 n) (sym d)
+        (over_sum v.loops.over w.loops.over (weigh share_long v.loops.pending) (weigh share_long w.loops.pending)) in
+        let z : over_long (hand_of spent) ≡ 0 = none_spent (nat_eq 0 0) in omega arith
+      where
+        none_spent : (b : Bool) → cond {A = ℕ} b 0 0 ≡ 0
+        none_spent true = refl
+        none_spent false = refl
+
+        some_over : (n x : ℕ) → 0 < n → cond (nat_eq n 0) 0 x ≡ x
+        some_over n x h = go (nat_eq n 0) refl
+          where
+            go : (b : Bool) → nat_eq n 0 ≡ b → cond b 0 x ≡ x
+            go true e = absurd (let z = eqb-true n 0 e in omega arith)
+            go false e = refl
+
+        over_sum : (a c x y : ℕ) → cond (nat_eq a 0) 0 x + cond (nat_eq c 0) 0 y ≤ cond (nat_eq (a + c) 0) 0 (x + y)
+        over_sum zero zero x y = omega arith
+        over_sum zero (suc c) x y = let d = some_over (0 + suc c) (x + y) (omega arith) in let e = some_over (suc c) y (omega arith) in omega arith
+        over_sum (suc a) zero x y = let d = some_over (suc a + 0) (x + y) (omega arith) in let e = some_over (suc a) x (omega arith) in omega arith
+        over_sum (suc a) (suc c) x y = let d = some_over (suc a + suc c) (x + y) (omega arith) in
+            let e = some_over (suc a) x (omega arith) in let g = some_over (suc c) y (omega arith) in omega arith
+
 idle_post : (a : ℕ) → 0 ≡ packed_post (P.Task a) → ⊥
 unfolding packed_post
 idle_post a e = omega arith
@@ -483,7 +556,7 @@ unfolding piece_in
 beside_zero = refl
 
 -- the table as it is made
-module _ (j : Setup) (laws : Laws (machine_of j.program) (rights_in j.program)) (ws : List ℕ) (some_workers : 0 < j.workers)
+module _ (j : Setup) (accepted : IsAccepted j.program) (laws : Laws (machine_of j.program) (rights_in j.program)) (ws : List ℕ) (some_workers : 0 < j.workers)
     (few_workers : j.workers ≤ 8) (op : IsOpening j ws) where
   abbrev pub main : Lie
   main = new_lie main_berth
@@ -611,6 +684,7 @@ module _ (j : Setup) (laws : Laws (machine_of j.program) (rights_in j.program)) 
       early = λ _. (refl, refl);
       whole = inl refl;
       rises = tt;
+      fresh = λ i x e. absurd (some-ne-none x (sym e));
       book = record { pieces = tt; covers = λ i. refl; none_ended = tt; retired = omega arith };
     });
     shown = λ p t q is live. each_lie
@@ -623,6 +697,7 @@ module _ (j : Setup) (laws : Laws (machine_of j.program) (rights_in j.program)) 
     handles = first_hand;
     unmade = λ k from less. (omega arith, refl);
     bound = omega arith;
+    beyond = omega arith;
   }
     where
       first_hand : (seat : ℕ) (h : Hand) → get_elem? (hands_of (first_view j ∷ [])) seat ≡ some h
@@ -633,6 +708,8 @@ module _ (j : Setup) (laws : Laws (machine_of j.program) (rights_in j.program)) 
             pieces = λ x i. elim i [ ];
             taken = λ e i. elim i [ ];
             retired = λ e i. elim i [ ];
+            placed = λ told x i. elim i [ ];
+            emptied = λ p i. elim i [ ];
             free = λ live d. omega arith;
             home = λ live. refl;
             sight = λ live n d. absurd (let z : None ≡ Some n = d in cc);
@@ -645,14 +722,17 @@ module _ (j : Setup) (laws : Laws (machine_of j.program) (rights_in j.program)) 
   pub opens : Facts j lies record { words = ws; homes = []; views = first_view j ∷ [] }
   opens = record {
     crew = few_workers;
+    accepted = accepted;
     laws = laws;
     core = record {
       lawful = subst (λ (z : Forest m × List ℕ). Lawful m (rights_in j.program) main_placed (opened_with j.program.families j.input)
           (record { forest = z.0; store = z.1 })) (λ i. (sym forest_is i, sym op.input i))
           (order.opens m (rights_in j.program) laws main_placed (opened_with j.program.families j.input) (is_main refl));
       there = each_lie (λ p t. IsHere j lies p) tt;
+      parents = λ p i t is. absurd (nil_child p i (only (child p i) t is).0);
+      index_there = λ p t i x is there. absurd (some-ne-none x (sym there ∙ ap (λ (z : List IndexLie). get_elem? z i)
+          (ap (λ (z : Lie). z.indexes) (sym (only p t is).1))));
       all = λ p h. inl (all_there p h);
-      unlooped = each_lie (λ p t. t.indexes ≡ []) refl;
     };
     words = record {
       wide = op.wide;
@@ -716,6 +796,11 @@ module _ (j : Setup) (laws : Laws (machine_of j.program) (rights_in j.program)) 
       held = each_first (λ k x. x.draws.over ≤ length x.draws.hands) (omega arith);
       crossed = each_first (λ k x. 0 < x.draws.over → TASKS < word_at (layout_of j) ws drawn_at) (λ some_over. absurd (omega arith));
     };
+    positions = record {
+      count = op.positions;
+      pending = λ p. omega arith;
+      begun = each_first (λ k x. (y : Share) → In y x.loops.pending → 0 < begun_in x y.spot.path) (λ y i. elim i [ ]);
+    };
     stopped = record { word = inl op.stop };
     looped = subst (λ (z : LoopWords). Looped j.workers lies z (hands_of (first_view j ∷ []))) (sym words_are) opened;
     fits = each_first (Fits j lies ws) (record {
@@ -763,20 +848,20 @@ no_homes [] e = refl
 no_homes (h ∷ hs) e = absurd (omega arith)
 
 -- the one seat is told the setup, by a load of any word
-pub tells : (opening : List ℕ) (id : ℕ) (me : Me Slots View) (j : Setup) (i : ℕ) → Laws (machine_of j.program) (rights_in j.program)
+pub tells : (opening : List ℕ) (id : ℕ) (me : Me Slots View) (j : Setup) (i : ℕ) → IsAccepted j.program → Laws (machine_of j.program) (rights_in j.program)
     → 0 < j.workers → j.workers ≤ 8 → IsOpening j opening → me.0 ≡ blank_view
     → Allows (Holds opening) 0 id me i (λ n. n) (Tells (Opens j) (step 0 i 0 0 none) me)
 unfolding Holds
-tells opening id me j i laws some_workers few_workers op blank s (inl (ws, vs)) none_out at _ = (
+tells opening id me j i accepted laws some_workers few_workers op blank s (inl (ws, vs)) none_out at _ = (
   first_view j,
   keeps,
   tt,
   inr (
     j,
     (
-      lies j laws opening some_workers few_workers op,
+      lies j accepted laws opening some_workers few_workers op,
       subst (λ (z : List ℕ × List (o.Option Slots) × List View). Facts j
-          (lies j laws opening some_workers few_workers op) record { words = z.0; homes = z.1; views = z.2 })
+          (lies j accepted laws opening some_workers few_workers op) record { words = z.0; homes = z.1; views = z.2 })
           (λ k. (
             (sym ws ∙ sym (set_word s.words i)) k,
             sym (no_homes s.homes none_out) k,
@@ -784,11 +869,11 @@ tells opening id me j i laws some_workers few_workers op blank s (inl (ws, vs)) 
                 (ap (λ (z : List View). set z id (first_view j)) vs ∙ one_view id (first_view j)
                 (subst (λ (z : List View). get_elem? z id ≡ some blank_view) vs (at ∙ ap some blank))) k,
           ))
-          (opens j laws opening some_workers few_workers op),
+          (opens j accepted laws opening some_workers few_workers op),
     ),
   ),
   (refl, refl),
 )
-tells opening id me j i laws some_workers few_workers op blank s (inr (k, (l, f))) none_out at _ =
+tells opening id me j i accepted laws some_workers few_workers op blank s (inr (k, (l, f))) none_out at _ =
     let told = (f.fits id me.0 at).setup (let e = ap (λ (z : View). z.parts) blank in omega arith) in
     let e : None ≡ Some k = sym (ap (λ (z : View). z.setup) blank) ∙ told in absurd (cc e)

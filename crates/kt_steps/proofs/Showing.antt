@@ -1,14 +1,15 @@
 -- The core is the one that words and views show.
-use Rattle.std.proofs.Common.{◌≡◌, ℕ, suc, ◌+◌, ◌<◌, ◌⊎◌, nat_eq, Bool, true, false, cond, List, [], ◌∷◌, map, sym, refl, ap, ◌∙◌, subst, inl, inr, arith}
+use Rattle.std.proofs.Common.{◌≡◌, ℕ, suc, ◌+◌, ◌<◌, ◌≤◌, ◌⊎◌, nat_eq, nat_lt, Bool, true, false, cond, List, [], ◌∷◌, map, length, sym, refl, ap, ◌∙◌, subst, inl, inr, arith}
 use Rattle.std.proofs.lemmas.List.{map-append}
-use mathlib.Core.Option.{Option, none, some, some-injective, some-ne-none}
+use Rattle.std.proofs.lemmas.Bool.Decides.{nat_tests}
+use mathlib.Core.Option.{Option, none, some, some-injective}
 use mathlib.Core.Path.{fun_ext}
 use lib.ListN.{get_elem?}
 use Rattle.atomic_table.specs.Table.{State}
 use Rattle.kt_law.specs.declared.stands.Stand.{Stand}
 use Rattle.kt_law.specs.declared.stands.Stand.TheVariants as S
-use Rattle.kt_order.specs.Forest.{Unclaimed, Running, Finished}
-use Rattle.kt_order.specs.Paths.{same_path}
+use Rattle.kt_order.specs.Forest.{Phase, Unclaimed, Running, Ended, Finished, fresh}
+use Rattle.kt_prog.specs.Reference.{machine_of}
 use Rattle.kt_runs.specs.Theorems.{whole_at}
 use Rattle.kt_runs.specs.ByPath.{Path}
 use Rattle.kt_words.specs.Places.{record_word}
@@ -17,67 +18,25 @@ use Rattle.kt_words.specs.declared.states.StateWord.{StateWord}
 use Rattle.kt_rule.specs.declared.views.Setup.{Setup}
 use Rattle.kt_rule.specs.declared.views.Berth.{Berth}
 use Rattle.kt_rule.specs.declared.views.Execution.{Execution}
+use Rattle.kt_rule.specs.declared.views.IndexRun.{IndexRun}
 use Rattle.kt_rule.specs.declared.views.Spot.{Spot}
 use Rattle.kt_rule.specs.declared.views.View.{View}
-use Rattle.kt_rule.specs.Lists.{weigh, times, one_if, In, here, there}
-use Rattle.kt_rule.specs.Lies.{Stage, Waits, Promised, Posted, Given, Runs, Loops, Done, Gone, Lie, Lies, phase_of, stand_of, is_gone, get_of, core_of}
+use Rattle.kt_rule.specs.Lists.{weigh, times}
+use Rattle.kt_rule.specs.Paths.{parent_of, number_of}
+use Rattle.kt_rule.specs.Lies.{Stage, Waits, Promised, Posted, Given, Runs, Loops, Done, Gone, IndexLie, Lie, Lies, phase_of, stand_of, is_gone, blank, index_of, index_in, get_of, core_of}
 use Rattle.kt_rule.specs.Records.{layout_of, word_at, elements, state_of}
-use Rattle.kt_rule.specs.Views.{spot_path, path_of, begun_in}
-use Rattle.kt_rule.specs.Facts.{is_there, is_begun, tally, IsUnderWay}
+use Rattle.kt_rule.specs.Views.{spot_path, path_of, begun_in, executions, indexes_of}
+use Rattle.kt_rule.specs.Facts.{is_there, is_begun, tally, runs_as, IsUnderWay}
+use Rattle.kt_rule.specs.LoopFacts.{is_taken, is_retired, IsIndex}
 use Rattle.kt_rule.specs.Rule.{Slots, Facts}
 use Rattle.kt_rule.specs.Steps.{state_word, IsState}
-use Rattle.kt_rule.specs.Shown.{find, all_from, under_way, of_spot, of_execution, of_ran, of_running, shown}
-use Rattle.kt_rule.proofs.Puts.{same_is, get_at, get_none}
-use Rattle.kt_rule.proofs.Sums.{weigh_append, in_append, times_append}
+use Rattle.kt_rule.specs.Shown.{find, all_from, under_way, phase_under, index_call, find_index, all_retired, all_taken, untaken, of_index, of_taken, of_retired, of_loop, of_above, of_spot, of_execution, of_ran, of_running, shown}
+use Rattle.kt_rule.proofs.Puts.{no_index, get_at, get_none}
+use Rattle.kt_rule.proofs.Sums.{in_append, times_append}
 use Rattle.kt_rule.proofs.Words.{state_one, says_state}
 use Rattle.kt_steps.proofs.Steps.{state_fits}
 use Rattle.kt_steps.proofs.Claiming.{waits_of}
-
--- what is found is there and has the path; where nothing is found no path is
-module _ {A : Type 0} (f : A → Path) (p : Path) where
-  found_at : (xs : List A) (x : A) → find f p xs ≡ some x → In x xs × (p ≡ f x)
-  found_at [] x e = absurd (some-ne-none x (sym e))
-  found_at (y ∷ xs) x e = go (same_path p (f y)) refl e (found_at xs x)
-    where
-      go : (b : Bool) → same_path p (f y) ≡ b → cond b (some y) (find f p xs) ≡ some x → (find f p xs ≡ some x → In x xs × (p ≡ f x))
-          → In x (y ∷ xs) × (p ≡ f x)
-      go true same d rest = let y_is = some-injective y x d in
-          (subst (λ (z : A). In z (y ∷ xs)) y_is here, same_is p (f y) same ∙ ap f y_is)
-      go false same d rest = let r = rest d in (there r.0, r.1)
-
-  found_none : (xs : List A) → find f p xs ≡ none → times p (map f xs) ≡ 0
-  found_none [] e = refl
-  found_none (y ∷ xs) e = go (same_path p (f y)) refl e (found_none xs)
-    where
-      go : (b : Bool) → same_path p (f y) ≡ b → cond b (some y) (find f p xs) ≡ none → (find f p xs ≡ none → times p (map f xs) ≡ 0)
-          → one_if (same_path p (f y)) + times p (map f xs) ≡ 0
-      go true same d rest = absurd (some-ne-none y d)
-      go false same d rest = let a : one_if (same_path p (f y)) ≡ 0 = ap one_if same in let b = rest d in omega arith
-
-  found_some : (xs : List A) (x : A) → find f p xs ≡ some x → 0 < times p (map f xs)
-  found_some [] x e = absurd (some-ne-none x (sym e))
-  found_some (y ∷ xs) x e = go (same_path p (f y)) refl e (found_some xs x)
-    where
-      go : (b : Bool) → same_path p (f y) ≡ b → cond b (some y) (find f p xs) ≡ some x → (find f p xs ≡ some x → 0 < times p (map f xs))
-          → 0 < one_if (same_path p (f y)) + times p (map f xs)
-      go true same d rest = let a : one_if (same_path p (f y)) ≡ 1 = ap one_if same in omega arith
-      go false same d rest = let b = rest d in omega arith
-
--- who has it
-of_whom : {A : Type 0} (g : View → List A) (views : List View) (x : A) → In x (all_from g views)
-    → (seat : ℕ) × (v : View) × (get_elem? views seat ≡ some v) × In x (g v)
-of_whom g [] x h = elim h [ ]
-of_whom g (v ∷ vs) x h = elim (in_append (g v) (all_from g vs) x h) [
-  | inl k ↦ (0, v, refl, k)
-  | inr k ↦ (let r = of_whom g vs x k in (suc r.0, r.1, r.2, r.3))
-]
-
-all_weigh : {A : Type 0} (g : View → List A) (f : A → Path) (views : List View) (p : Path)
-    → times p (map f (all_from g views)) ≡ weigh (λ (v : View). times p (map f (g v))) views
-all_weigh g f [] p = refl
-all_weigh g f (v ∷ vs) p = ap (times p) (map-append f (g v) (all_from g vs)) ∙
-    (weigh_append (λ q. one_if (same_path p q)) (map f (g v)) (map f (all_from g vs)) ∙ ap (λ (n : ℕ). times p (map f (g v)) + n)
-    (all_weigh g f vs p))
+use Rattle.kt_steps.proofs.Indexed.{found_at, found_none, found_some, of_whom, all_weigh, index_found, index_none, index_sum, elem_none, elem_some, idle_early, begun_or, untouched, not_ended, agrees, begun_all, taken_is, retired_is, taken_all, retired_all, tally_at}
 
 -- the begun tasks are those under way and those that ran
 begun_split : (views : List View) (p : Path) → weigh (λ (v : View). begun_in v p) views ≡ weigh
@@ -92,6 +51,12 @@ nat_is a b e = grind arith
 is_nat : (a b : ℕ) → a ≡ b → nat_eq a b ≡ true
 is_nat a b h = grind (arith, h)
 
+lt_is : (a b : ℕ) → nat_lt a b ≡ true → a < b
+lt_is a b e = grind (arith, nat_tests)
+
+not_lt : (a b : ℕ) → nat_lt a b ≡ false → b ≤ a
+not_lt a b e = grind (arith, nat_tests)
+
 module _ (j : Setup) (lies : Lies) (s : State Slots View) (f : Facts j lies s) where
   begun_count : (p : Path) → times p (map path_of (all_from under_way s.views)) + times p
       (map path_of (all_from (λ (v : View). v.tasks.ran) s.views)) ≡ tally is_begun (lies p)
@@ -101,9 +66,13 @@ module _ (j : Setup) (lies : Lies) (s : State Slots View) (f : Facts j lies s) w
   mine_count : (p : Path) → times p (map spot_path (all_from (λ (v : View). v.region.mine) s.views)) ≡ tally is_there (lies p)
   mine_count p = all_weigh (λ (v : View). v.region.mine) spot_path s.views p ∙ f.counts.mine p
 
+  runs_phase : (b : Bool) (k : ℕ) → cond b Ended Running ≡ phase_of (runs_as b k)
+  runs_phase true k = refl
+  runs_phase false k = refl
+
   -- a task under way, as its entry has it
   running_is : (p : Path) (e : Execution) → find path_of p (all_from under_way s.views) ≡ some e
-      → of_execution j s Running p e ≡ get_of j lies p
+      → of_execution j s (phase_under e) p e ≡ get_of j lies p
   running_is p e d =
       let a = found_at path_of p (all_from under_way s.views) e d in
       let w = of_whom under_way s.views e a.0 in
@@ -115,11 +84,10 @@ module _ (j : Setup) (lies : Lies) (s : State Slots View) (f : Facts j lies s) w
       of_under_way p e h (ap lies a.1 ∙ h.1)
     where
       of_under_way : (p : Path) (e : Execution) (h : IsUnderWay j lies e) → lies p ≡ some h.0
-          → of_execution j s Running p e ≡ get_of j lies p
+          → of_execution j s (phase_under e) p e ≡ get_of j lies p
       of_under_way p e h is = (λ i. record {
         call = whole_at (map suc p) (sym h.2.berth i).call;
-        phase = phase_of
-            (sym h.3.1 i);
+        phase = (runs_phase e.looping h.3.0 ∙ ap phase_of (sym h.3.1)) i;
         answers = sym h.2.answers i;
         done = sym h.2.count i;
       }) ∙ sym (get_at j lies p h.0 is)
@@ -202,15 +170,92 @@ module _ (j : Setup) (lies : Lies) (s : State Slots View) (f : Facts j lies s) w
       phase false e word berth = other m.berth t.stage idle (ap (λ (n : ℕ). nat_eq n (state_word m.berth S.Unclaimed))
           (ap (λ (b : Berth). state_word b (stand_of t.stage)) (sym berth) ∙ sym word) ∙ e)
 
-  zero_or_one : (x : Stage) → (is_begun x ≡ 0) ⊎ (is_begun x ≡ 1)
-  zero_or_one Waits = inl refl
-  zero_or_one (Promised k) = inl refl
-  zero_or_one (Posted k) = inl refl
-  zero_or_one (Given k) = inl refl
-  zero_or_one (Runs k) = inr refl
-  zero_or_one (Loops k) = inr refl
-  zero_or_one Done = inr refl
-  zero_or_one Gone = inr refl
+  -- an index that is taken or retired, as its entry has it
+  index_shows : (ph : Phase) (q : Path) (i : ℕ) (t : Lie) → lies q ≡ some t → (e : IndexRun) → IsIndex lies ph e → q ≡ e.spot.path
+      → i ≡ e.index → of_index j s ph q i e ≡ index_of j q t.berth.call i (get_elem? t.indexes i)
+  index_shows ph q i t is e h path number =
+      (λ k. record {
+        call = index_call q (berth k).call i;
+        phase = sym h.phase_is k;
+        answers = sym h.answers k;
+        done = sym h.count k;
+      })
+      ∙ ap (index_of j q t.berth.call i) (sym at)
+    where
+      task_is : h.task ≡ t
+      task_is = some-injective h.task t (sym h.is ∙ (ap lies (sym path) ∙ is))
+
+      berth : e.spot.berth ≡ t.berth
+      berth = sym h.berth ∙ ap (λ (z : Lie). z.berth) task_is
+
+      at : get_elem? t.indexes i ≡ some h.index
+      at = (λ k. get_elem? (sym task_is k).indexes (number k)) ∙ h.at
+
+  -- and one that nobody has taken
+  index_waits : (q : Path) (i : ℕ) (t : Lie) → lies q ≡ some t → (e : Execution) → t.berth ≡ e.spot.berth → length t.indexes ≡ indexes_of e
+      → find_index q i (all_retired s.views) ≡ none → find_index q i (all_taken s.views) ≡ none
+      → untaken j s q i e ≡ index_of j q t.berth.call i (get_elem? t.indexes i)
+  index_waits q i t is e berth long none_retired none_taken = go (get_elem? t.indexes i) refl (nat_lt i (indexes_of e)) refl
+    where
+      go : (o : Option IndexLie) → get_elem? t.indexes i ≡ o → (b : Bool) → nat_lt i (indexes_of e) ≡ b
+          → cond b (fresh (machine_of j.program) (index_call q e.spot.berth.call i)) (blank j) ≡ index_of j q t.berth.call i o
+      go none at false b_is = refl
+      go none at true b_is = absurd (let a = elem_none t.indexes i at in let h = lt_is i (indexes_of e) b_is in omega arith)
+      go (some x) at false b_is = absurd (let a = elem_some t.indexes i x at in let h = not_lt i (indexes_of e) b_is in omega arith)
+      go (some x) at true b_is =
+          let taken = taken_all j lies s f q i in
+          let taken_sum = index_sum (λ (v : View). v.loops.taken) q i s.views in
+          let taken_zero = index_none q i (all_taken s.views) none_taken in
+          let taken_at = tally_at j lies s f q t i x is at is_taken in
+          let retired = retired_all j lies s f q i in
+          let retired_sum = index_sum (λ (v : View). v.loops.retired) q i s.views in
+          let retired_zero = index_none q i (all_retired s.views) none_retired in
+          let retired_at = tally_at j lies s f q t i x is at is_retired in
+          let book = f.looped.booked q t is in
+          let phase = untouched x.phase (omega arith) (omega arith) (not_ended t.indexes i x book.book.none_ended at) in
+          let nothing = book.fresh i x at phase in
+          (λ k. record {
+            call = index_call q (sym berth k).call i;
+            phase = sym phase k;
+            answers = sym nothing.0 k;
+            done = sym nothing.1 k;
+          })
+
+  -- what is shown of a number of a loop, or of another task, is the index that it has
+  above_is : (q : Path) (i : ℕ) → of_above j s q i ≡ index_in j q i (lies q)
+  above_is q i = of_lie (lies q) refl (find path_of q (all_from executions s.views)) refl
+    where
+      of_lie : (x : Option Lie) → lies q ≡ x → (e : Option Execution) → find path_of q (all_from executions s.views) ≡ e
+          → of_loop j s q i e ≡ index_in j q i x
+      of_lie none x_is none e_is = refl
+      of_lie none x_is (some e) e_is = absurd (let a = found_some path_of q (all_from executions s.views) e e_is in
+          let b = begun_all j lies s f q in let k : tally is_begun (lies q) ≡ 0 = ap (tally is_begun) x_is in omega arith)
+      of_lie (some t) x_is none e_is =
+          let a = found_none path_of q (all_from executions s.views) e_is in let b = begun_all j lies s f q in
+          let k : tally is_begun (lies q) ≡ is_begun t.stage = ap (tally is_begun) x_is in
+          sym (no_index j q i t ((f.looped.booked q t x_is).early (idle_early t.stage (omega arith))).0)
+      of_lie (some t) x_is (some e) e_is =
+          let a = found_at path_of q (all_from executions s.views) e e_is in
+          let w = of_whom executions s.views e a.0 in
+          let h = agrees j lies s f w.0 w.1 w.2 e w.3 in
+          let t_is : h.0 ≡ t = some-injective h.0 t (sym h.1 ∙ (ap lies (sym a.1) ∙ x_is)) in
+          of_runs t x_is e (ap (λ (z : Lie). z.berth) (sym t_is) ∙ h.2.berth)
+          (ap (λ (z : Lie). length z.indexes) (sym t_is) ∙ h.2.indexes)
+          (find_index q i (all_retired s.views)) refl (find_index q i (all_taken s.views)) refl
+        where
+          of_runs : (t : Lie) → lies q ≡ some t → (e : Execution) → t.berth ≡ e.spot.berth → length t.indexes ≡ indexes_of e
+              → (r : Option IndexRun) → find_index q i (all_retired s.views) ≡ r
+              → (n : Option IndexRun) → find_index q i (all_taken s.views) ≡ n
+              → of_retired j s q i e r ≡ index_in j q i (some t)
+          of_runs t is e berth long (some r) r_is n n_is =
+              let a = index_found q i (all_retired s.views) r r_is in
+              let w = of_whom (λ (v : View). v.loops.retired) s.views r a.0 in
+              index_shows Finished q i t is r (retired_is j lies s f w.0 w.1 w.2 r w.3) a.1 a.2
+          of_runs t is e berth long none r_is (some n) n_is =
+              let a = index_found q i (all_taken s.views) n n_is in
+              let w = of_whom (λ (v : View). v.loops.taken) s.views n a.0 in
+              ap (of_taken j s q i e) n_is ∙ index_shows Running q i t is n (taken_is j lies s f w.0 w.1 w.2 n w.3) a.1 a.2
+          of_runs t is e berth long none r_is none n_is = ap (of_taken j s q i e) n_is ∙ index_waits q i t is e berth long r_is n_is
 
   at_path : (p : Path) (x : Option Lie) → lies p ≡ x → (e : Option Execution) → find path_of p (all_from under_way s.views) ≡ e
       → (r : Option Execution) → find path_of p (all_from (λ (v : View). v.tasks.ran) s.views) ≡ r
@@ -218,14 +263,14 @@ module _ (j : Setup) (lies : Lies) (s : State Slots View) (f : Facts j lies s) w
   at_path p x x_is (some e) e_is r r_is m m_is = running_is p e e_is
   at_path p x x_is none e_is (some r) r_is m m_is = ap (of_ran j s p) r_is ∙ ran_is p r r_is
   at_path p none x_is none e_is none r_is none m_is = ap (of_ran j s p) r_is ∙
-      (ap (of_spot j s p) m_is ∙ sym (get_none j lies p f.core.unlooped x_is))
+      (ap (of_spot j s p) m_is ∙ (above_is (parent_of p) (number_of p) ∙ sym (get_none j lies p x_is)))
   at_path p none x_is none e_is none r_is (some m) m_is = absurd
       (let a = found_some spot_path p (all_from (λ (v : View). v.region.mine) s.views) m m_is in let b = mine_count p in
       let k : tally is_there (lies p) ≡ 0 = ap (tally is_there) x_is in omega arith)
   at_path p (some t) x_is none e_is none r_is none m_is = absurd
       (let a = found_none spot_path p (all_from (λ (v : View). v.region.mine) s.views) m_is in let b = mine_count p in
       let k : tally is_there (lies p) ≡ 1 = ap (tally is_there) x_is in omega arith)
-  at_path p (some t) x_is none e_is none r_is (some m) m_is = elim (zero_or_one t.stage) [
+  at_path p (some t) x_is none e_is none r_is (some m) m_is = elim (begun_or t.stage) [
     | inl idle ↦ ap (of_ran j s p) r_is ∙ (ap (of_spot j s p) m_is ∙ waiting_is p t x_is idle m m_is)
     | inr begun ↦ absurd (let a = found_none path_of p (all_from under_way s.views) e_is in
         let b = found_none path_of p (all_from (λ (v : View). v.tasks.ran) s.views) r_is in let c = begun_count p in

@@ -1,6 +1,6 @@
 -- Steps on a task that is there: a claim, a start, an operation on an element, a finish. Each turns one task and one
 -- word, and ends in `turned`.
-use Rattle.std.proofs.Common.{true, ◌≡◌, ◌≢◌, ℕ, zero, suc, ◌+◌, ◌*◌, ◌<◌, ◌≤◌, ◌⊎◌, eqb, false, cond, List, [], ◌∷◌, ◌++◌, append-nil, set, map, take, get_or, length, slice_index, sym, refl, ap, ◌∙◌, subst, inl, inr, arith, ⊎_elim, MatchBool, eq-eqb, ne_eqb, length-set, length-append, Option, Some, None}
+use Rattle.std.proofs.Common.{true, ◌≡◌, ◌≢◌, ℕ, zero, suc, ◌+◌, ◌*◌, ◌<◌, ◌≤◌, ◌⊎◌, eqb, Bool, false, cond, List, [], ◌∷◌, ◌++◌, append-nil, set, map, take, get_or, length, slice_index, sym, refl, ap, ◌∙◌, subst, inl, inr, arith, ⊎_elim, MatchBool, eq-eqb, ne_eqb, length-set, length-append, Option, Some, None}
 use mathlib.Core.Option.{some, some-injective, some-ne-none}
 use prog.Atomic.{either}
 use lib.ListN.{get_elem?}
@@ -11,20 +11,23 @@ use Rattle.kt_law.specs.Accesses.{clash_between}
 use Rattle.kt_law.specs.declared.accesses.Access.{Access}
 use Rattle.kt_law.specs.declared.stands.Stand.{Stand}
 use Rattle.kt_law.specs.declared.stands.Stand.TheVariants as S
-use Rattle.kt_order.specs.Body.{Do, Stop}
+use Rattle.kt_order.specs.Body.{Do, Fork, Stop}
 use Rattle.kt_order.specs.Machine.{Machine, Code}
-use Rattle.kt_order.specs.Forest.{Task, Unclaimed, Running, Finished}
-use Rattle.kt_order.specs.Rest.{left}
+use Rattle.kt_order.specs.Forest.{Phase, Task, Unclaimed, Running, Ended, Finished}
+use Rattle.kt_order.specs.Rest.{standing, left_of, left}
+use Rattle.kt_order.specs.Stand.{Standing, stand}
+use Rattle.kt_order.specs.Lawful.{PhaseOk}
 use Rattle.kt_order.specs.Events as events
 use Rattle.kt_order.specs.Events.{in_phase, did, ended, MayPass}
 use Rattle.kt_order.specs.Paths.{same_path, Earlier}
 use Rattle.kt_order.proofs.ByPaths.{at_path}
+use Rattle.kt_order.proofs.Bounds.{IsStop, bounded}
 use Rattle.kt_order.proofs.PathThere.{there_child, child_there, earlier_by}
 use Rattle.kt_prog.specs.Script.{Fault}
 use Rattle.kt_prog.specs.Fits as program
 use Rattle.kt_rights.specs.Acts.{is_load, effect, found}
 use Rattle.kt_prog.specs.Store.{place_of}
-use Rattle.kt_prog.specs.Reference.{machine_of, main_placed, opened_with}
+use Rattle.kt_prog.specs.Reference.{Placed, machine_of, main_placed, opened_with}
 use Rattle.kt_runs.specs.Rights.{rights_in}
 use Rattle.kt_runs.specs.Theorems.{whole_at}
 use Rattle.kt_runs.proofs.Clashes.{apart_is_no_clash}
@@ -43,23 +46,23 @@ use Rattle.kt_rule.specs.declared.views.Region.{Region}
 use Rattle.kt_rule.specs.declared.views.Tasks.{Tasks}
 use Rattle.kt_rule.specs.declared.views.View.{View}
 use Rattle.kt_rule.specs.Paths.{put}
-use Rattle.kt_rule.specs.Lists.{times, one_if, In, here, there}
-use Rattle.kt_rule.specs.Weights.{next_weight, is_task}
-use Rattle.kt_rule.specs.Lies.{Stage, Waits, Promised, Posted, Given, Runs, Loops, Done, Gone, Lie, Lies, phase_of, stand_of, is_gone, task_of, get_of, core_of, counts_of, forks_of, Cored}
+use Rattle.kt_rule.specs.Lists.{weigh, times, one_if, In, here, there}
+use Rattle.kt_rule.specs.Weights.{next_weight, forks_ahead, is_task, is_index}
+use Rattle.kt_rule.specs.Lies.{Stage, Waits, Promised, Posted, Given, Runs, Loops, Done, Gone, IndexLie, Lie, Lies, phase_of, stand_of, is_gone, task_of, get_of, core_of, counts_of, forks_of, Cored}
 use Rattle.kt_rule.specs.Records.{layout_of, word_at, elements, state_of, later_field, fork_in, frame_in}
-use Rattle.kt_rule.specs.Views.{spot_path, path_of, promise_path, claimed_in, promised_in, given_in, begun_in, frames, roots, children, blank_view}
-use Rattle.kt_rule.specs.Facts.{is_claimed, is_promised, is_given, is_begun, tally, Sound, Words, task_in, Agrees, IsUnderWay, IsOver, IsGiven, Falls, Owns, Fits, waiting}
+use Rattle.kt_rule.specs.Views.{spot_path, path_of, promise_path, claimed_in, promised_in, given_in, begun_in, indexes_of, frames, roots, children, blank_view}
+use Rattle.kt_rule.specs.Facts.{is_claimed, is_promised, is_given, is_begun, tally, Sound, Words, task_in, Agrees, runs_as, IsUnderWay, IsOver, IsGiven, Falls, Owns, Fits, waiting, waiting_indexes}
 use Rattle.kt_rule.specs.Requests.{IsPromised}
 use Rattle.kt_rule.specs.LoopFacts.{is_early}
 use Rattle.kt_rule.specs.Rule.{Slots, Facts, Holds}
 use Rattle.kt_rule.specs.Steps.{begun_by, with_begun, won_own, won_for, BeforeKnown, IsReady, starts_own, starts, over, ends, heard, did_one, does_one}
-use Rattle.kt_rule.proofs.Puts.{put_here, put_else, get_at}
+use Rattle.kt_rule.proofs.Puts.{put_here, put_else, get_at, parent_is}
 use Rattle.kt_rule.proofs.Shelf as shelf
 use Rattle.kt_rule.proofs.Shelf.{elements_else, elements_set, elements_at}
 use Rattle.kt_rule.proofs.Sums as sums
-use Rattle.kt_rule.proofs.Sums.{in_cons, times_snoc, not_among, among, one_self, adds, drops, tally_own, tally_alone}
+use Rattle.kt_rule.proofs.Sums.{weigh_append, in_cons, times_snoc, not_among, among, one_self, adds, drops, tally_own, tally_alone}
 use Rattle.kt_rule.proofs.Cores as cores
-use Rattle.kt_rule.proofs.Cores.{last_of, child_one, all_tasks}
+use Rattle.kt_rule.proofs.Cores.{last_of, child_one, task_there}
 use Rattle.kt_rule.proofs.Words.{Turn, IsPlain, says_state, floors}
 use Rattle.kt_rule.proofs.Moves.{with_tasks, turned}
 
@@ -235,8 +238,9 @@ module _ (j : Setup) (lies : Lies) (s : State Slots View) (f : Facts j lies s) (
           each : (i : ℕ) → i < n → May (get_of j lies (child q i)) (get_of j lies (child q n))
           each i less =
               let up = there_child levels (counts_of j lies) q n (f.core.there (child q n) t is_child) in let up1 = up.1 in
-              let y = all_tasks j lies (elements (layout_of j) s.words) f.core (child q i)
-              (child_there levels (counts_of j lies) q i up.0 (omega arith) up.2) in
+              let y = task_there j lies (elements (layout_of j) s.words) f.core (child q i)
+              (child_there levels (counts_of j lies) q i up.0 (omega arith) up.2)
+              (λ z z_is. f.looped.childless q n z t (ap lies (sym (parent_is q i)) ∙ z_is) is_child) in
               let b = f.words.beside q i n y.0 t y.1 is_child in let b2 = b.2 in let fn = fork_n in
               let o = ready i (omega arith) in let o2 = o.2 in
               let same_at : y.0.berth.at ≡ o.0.at = omega arith in
@@ -496,6 +500,8 @@ module _ (j : Setup) (lies : Lies) (s : State Slots View) (f : Facts j lies s) (
       unposted = unposted;
       unposted_now = runs_unposted worker;
       waits = waits_same;
+      waits_indexes = omega arith;
+      positions = omega arith;
       claimed = tc;
       promised = tp;
       given = tg;
@@ -534,7 +540,13 @@ module _ (j : Setup) (lies : Lies) (s : State Slots View) (f : Facts j lies s) (
         begins = (
           u,
           put_here lies p (some u),
-          record { berth = refl; answers = nothing.0; count = nothing.1; forks = no_forks },
+          record {
+            berth = refl;
+            answers = nothing.0;
+            count = nothing.1;
+            indexes = ap (λ (z : List IndexLie). length z) ((f.looped.booked p t is).early (not_looped t.stage idle)).0;
+            forks = no_forks;
+          },
           (worker, refl),
         )
 
@@ -557,7 +569,7 @@ module _ (j : Setup) (lies : Lies) (s : State Slots View) (f : Facts j lies s) (
   claimed_core to runs_now = subst (Cored j (put lies p (some (after to))))
       (sym (elements_else (layout_of j) s.words (record_word t.berth.at 0) (packed_state (state_of (after to)))
       (f.words.inside p t is, omega arith) tt))
-      (cores.claims j f.laws lies (elements (layout_of j) s.words) f.core p t is (after to) refl
+      (cores.claims j f.laws lies (elements (layout_of j) s.words) f.core p t is (after to) refl refl
       (λ i. record { call = whole_at (map suc p) t.berth.call; phase = runs_now i; answers = t.answers; done = t.count })
       (ap phase_of waits) before)
 
@@ -612,6 +624,8 @@ module _ (j : Setup) (lies : Lies) (s : State Slots View) (f : Facts j lies s) (
         unposted = unposted2;
         unposted_now = promised_unposted thief;
         waits = same_wait thief;
+        waits_indexes = omega arith;
+        positions = refl;
         claimed = adds claimed_in is_claimed lies v w p t u2 is (ap is_claimed waits) refl (λ q. times_snoc q p v.tasks.claimed);
         promised = adds promised_in is_promised lies v w p t u2 is (ap is_promised waits) refl
             (λ q. let c : promised_in w q ≡ promised_in v q + one_if (same_path q p) = omega arith in c);
@@ -672,7 +686,7 @@ module _ (j : Setup) (lies : Lies) (s : State Slots View) (f : Facts j lies s) (
   started_core runs = subst (Cored j (put lies m.path (some u3)))
       (sym (elements_else (layout_of j) s.words (record_word t.berth.at 0) (packed_state (state_of u3))
       (f.words.inside m.path t is, omega arith) tt))
-      (cores.stays j f.laws lies (elements (layout_of j) s.words) f.core m.path t is u3 refl
+      (cores.stays j f.laws lies (elements (layout_of j) s.words) f.core m.path t is u3 refl refl
       (λ i. record { call = whole_at (map suc m.path) t.berth.call; phase = sym runs i; answers = t.answers; done = t.count }))
 
   spot_is : record { berth = t.berth; path = m.path } ≡ m
@@ -752,10 +766,72 @@ module _ (j : Setup) (lies : Lies) (s : State Slots View) (f : Facts j lies s) (
             (let a = was m.path in let b = one_self m.path m.path refl in omega arith),
       )))
 
+-- a task that runs lives
+pub runs_live : (looping : Bool) (k : ℕ) → is_gone (runs_as looping k) ≡ false
+runs_live false k = refl
+runs_live true k = refl
+
+pub at_head : (v : View) (e : Execution) (rest : List Execution) → v.tasks.running ≡ e ∷ rest → In e v.tasks.running
+at_head v e rest runs = subst (In e) (sym runs) here
+
+-- A LOOP THAT HAS BEGUN has done its body, so that a body with an operation to do is none
+
+module _ (j : Setup) (lies : Lies) (s : State Slots View) (f : Facts j lies s) (id : ℕ) (v : View) (at : get_elem? s.views id ≡ some v)
+    (e : Execution) (runs : In e v.tasks.running) where
+  abbrev m0 : Machine
+  m0 = machine_of j.program
+
+  -- where it stands in the core
+  looping_stands : e.looping ≡ true → (st : Standing m0) × (standing m0 (task_in j e) ≡ Some st) × (st.over ≡ true) × IsStop m0 st.left
+  looping_stands loops =
+      let h = (f.fits id v at).running e runs in
+      let t = h.0 in
+      let got = get_at j lies e.spot.path t h.1 in
+      at_path m0 levels (rights_in j.program) f.laws main_placed (opened_with j.program.families j.input)
+      ((st : Standing m0) × (standing m0 (task_in j e) ≡ Some st) × (st.over ≡ true) × IsStop m0 st.left) e.spot.path (core_of j lies (elements (layout_of j) s.words)) (f.core.there e.spot.path t h.1)
+      f.core.lawful (λ kids ok.
+      let phase : (get_of j lies e.spot.path).phase ≡ Ended = ap (λ (z : Task m0). z.phase) got
+      ∙ ap phase_of (h.3.1 ∙ ap (λ b. runs_as b h.3.0) loops) in
+      let done_all : ok.st.over ≡ true = subst (λ (z : Phase). PhaseOk m0 z (get_of j lies e.spot.path) ok.st kids) phase ok.phase in
+      let same : standing m0 (task_in j e) ≡ Some ok.st = (λ i. stand m0 (m0.tree (whole_at (map suc e.spot.path) (sym h.2.berth i).call))
+      (sym h.2.answers i) (sym h.2.count i)) ∙ (ap (standing m0) (sym got) ∙ ok.stands) in (
+        ok.st,
+        same,
+        done_all,
+        (bounded m0 _ _ _ (m0.tree (get_of j lies e.spot.path).call) (get_of j lies e.spot.path).answers
+            (get_of j lies e.spot.path).done ok.st (f.laws.within (get_of j lies e.spot.path).call ok.fits) ok.stands).stops done_all,
+      ))
+
+  looping_stops : e.looping ≡ true → IsStop m0 (left m0 (task_in j e))
+  looping_stops loops = let h = looping_stands loops in subst (λ z. IsStop m0 (left_of m0 z)) (sym h.1) h.3
+
+  plain_unless : (IsStop m0 (left m0 (task_in j e)) → ⊥) → e.looping ≡ false
+  plain_unless busy = go e.looping refl
+    where
+      go : (b : Bool) → e.looping ≡ b → e.looping ≡ false
+      go true loops = absurd (busy (looping_stops loops))
+      go false none_begun = none_begun
+
+  -- nor is one that has its end still to do
+  pub plain_still : (st : Standing m0) → standing m0 (task_in j e) ≡ Some st → st.over ≡ false → e.looping ≡ false
+  plain_still st stands still = go e.looping refl
+    where
+      go : (b : Bool) → e.looping ≡ b → e.looping ≡ false
+      go true loops = let h = looping_stands loops in
+          let same : h.0 ≡ st = the_some (sym h.1 ∙ stands) in
+          let z : true ≡ false = sym h.2 ∙ (ap (λ (y : Standing m0). y.over) same ∙ still) in absurd (cc z)
+      go false none_begun = none_begun
+
+  pub plain_at_act : (d : Act) (k : ℕ → Code (machine_of j.program)) → left (machine_of j.program) (task_in j e) ≡ Do d k → e.looping ≡ false
+  plain_at_act d k next = plain_unless (λ h. let z : ⊥ = subst (IsStop m0) next h in z)
+
+  pub plain_at_fork : (c : Placed) (w : Code (machine_of j.program)) → left (machine_of j.program) (task_in j e) ≡ Fork c w → e.looping ≡ false
+  plain_at_fork c w next = plain_unless (λ h. let z : ⊥ = subst (IsStop m0) next h in z)
+
 -- THE RUNNING BODY GOES ON
 
 module _ (j : Setup) (lies : Lies) (s : State Slots View) (f : Facts j lies s) (id : ℕ) (v : View) (at : get_elem? s.views id ≡ some v)
-    (live : 0 < v.parts) (e : Execution) (rest : List Execution) (runs : v.tasks.running ≡ e ∷ rest) where
+    (live : 0 < v.parts) (e : Execution) (rest : List Execution) (runs : v.tasks.running ≡ e ∷ rest) (plain : e.looping ≡ false) where
   abbrev q : Path
   q = e.spot.path
 
@@ -763,7 +839,7 @@ module _ (j : Setup) (lies : Lies) (s : State Slots View) (f : Facts j lies s) (
   fit2 = f.fits id v at
 
   pub head_in : In e v.tasks.running
-  head_in = subst (In e) (sym runs) here
+  head_in = at_head v e rest runs
 
   abbrev lie : Lie
   lie = (fit2.running e head_in).0
@@ -775,7 +851,11 @@ module _ (j : Setup) (lies : Lies) (s : State Slots View) (f : Facts j lies s) (
   head_agrees = (fit2.running e head_in).2
 
   pub head_runs : (k : ℕ) × (lie.stage ≡ Runs k)
-  head_runs = (fit2.running e head_in).3
+  head_runs = let h = (fit2.running e head_in).3 in (h.0, h.1 ∙ ap (λ b. runs_as b h.0) plain)
+
+  -- it has no indexes
+  pub head_single : indexes_of e ≡ 0
+  head_single = ap (λ b. cond b e.spot.berth.call.length 0) plain
 
   -- its task is the one of the entry
   pub head_task : task_of j q lie ≡ task_in j e
@@ -898,10 +978,12 @@ module _ (j : Setup) (lies : Lies) (s : State Slots View) (f : Facts j lies s) (
           }) e2 (effect d.deed n) in_e refl;
       loop = record { berth = refl; first = refl; unretired = refl; indexes = refl; pieces = refl; gone = refl; early = λ x. x };
       core = subst (Cored j (put lies q (some u5))) (sym after_is)
-          (cores.does j f.laws lies (elements l2 s.words) f.core q lie head_is head_running d k next_lie u5 refl u5_is);
+          (cores.does j f.laws lies (elements l2 s.words) f.core q lie head_is head_running d k next_lie u5 refl refl u5_is);
       unposted = λ x z. runs_unposted head_runs.0 x (sym head_runs.1 ∙ z);
       unposted_now = λ x z. runs_unposted head_runs.0 x (sym head_runs.1 ∙ z);
       waits = let a : next_weight m2 is_task (left m2 (task_of j q lie)) ≡ 0 = ap (next_weight m2 is_task) next_lie in omega arith;
+      waits_indexes = let a : forks_ahead m2 is_index (left m2 (task_of j q lie)) ≡ 0 = ap (forks_ahead m2 is_index) next_lie in omega arith;
+      positions = let a = ap (λ (z : List Execution). weigh indexes_of (z ++ (v.tasks.halted ++ v.tasks.ran))) runs in omega arith;
       claimed = sums.stays claimed_in is_claimed lies v w2 q lie u5 head_is refl (λ x. refl);
       promised = sums.stays promised_in is_promised lies v w2 q lie u5 head_is refl (λ x. refl);
       given = sums.stays given_in is_given lies v w2 q lie u5 head_is refl (λ x. refl);
@@ -910,7 +992,7 @@ module _ (j : Setup) (lies : Lies) (s : State Slots View) (f : Facts j lies s) (
       owns = λ o. owns_same l2 (put lies q (some u5)) ws5 id v.region v.tasks.begun e (did_one d n e) rest refl refl refl
           (subst (λ (z : List Execution). Owns l2 (put lies q (some u5)) ws5 id v.region z v.tasks.begun) runs o);
       running = λ x i. ⊎_elim (λ (h : x ≡ did_one d n e). subst (IsUnderWay j (put lies q (some u5))) (sym h)
-          (u5, put_here lies q (some u5), now_agrees, head_runs)) (rest_keeps u5 x) (in_cons x (did_one d n e) rest i);
+          (u5, put_here lies q (some u5), now_agrees, (fit2.running e head_in).3)) (rest_keeps u5 x) (in_cons x (did_one d n e) rest i);
       halted = halted_keeps u5;
       ran = ran_keeps u5;
       bound = let a = fit2.begun in let b = ap (λ (z : List Execution). length z) runs in omega arith;
@@ -932,6 +1014,7 @@ module _ (j : Setup) (lies : Lies) (s : State Slots View) (f : Facts j lies s) (
           berth = head_agrees.berth;
           answers = ap (λ (xs : List ℕ). xs ++ heard d n) head_agrees.answers;
           count = ap suc head_agrees.count;
+          indexes = head_agrees.indexes;
           forks = cores.does_forks j f.laws lies (elements l2 s.words) f.core q lie head_is head_running d k next_lie u5 u5_is
               ∙ head_agrees.forks;
         }
@@ -967,11 +1050,17 @@ module _ (j : Setup) (lies : Lies) (s : State Slots View) (f : Facts j lies s) (
       core = subst (Cored j (put lies q (some u6)))
           (sym (elements_else l2 s.words (record_word lie.berth.at 0) (packed_state (state_of u6))
           (f.words.inside q lie head_is, omega arith) tt))
-          (cores.ends j f.laws lies (elements l2 s.words) f.core q lie head_is head_running fault stop_lie u6 refl refl
-          (λ k less. fit2.known (child q k) (children k (let a = head_agrees.forks in omega arith))));
+          (cores.ends j f.laws lies (elements l2 s.words) f.core q lie head_is head_running fault stop_lie u6 refl refl refl
+          (λ k less. fit2.known (child q k) (children k (let a = head_agrees.forks in let b = head_single in omega arith))));
       unposted = λ x z. runs_unposted head_runs.0 x (sym head_runs.1 ∙ z);
       unposted_now = done_unposted;
       waits = let a : next_weight m2 is_task (left m2 (task_of j q lie)) ≡ 0 = ap (next_weight m2 is_task) stop_lie in omega arith;
+      waits_indexes = let a : forks_ahead m2 is_index (left m2 (task_of j q lie)) ≡ 0 = ap (forks_ahead m2 is_index) stop_lie in omega arith;
+      positions = let a = ap (λ (z : List Execution). weigh indexes_of (z ++ (v.tasks.halted ++ v.tasks.ran))) runs in
+          let b = weigh_append indexes_of rest (v.tasks.halted ++ (over e ∷ v.tasks.ran)) in
+          let c = weigh_append indexes_of v.tasks.halted (over e ∷ v.tasks.ran) in
+          let d = weigh_append indexes_of rest (v.tasks.halted ++ v.tasks.ran) in
+          let g = weigh_append indexes_of v.tasks.halted v.tasks.ran in omega arith;
       claimed = sums.stays claimed_in is_claimed lies v w6 q lie u6 head_is (ap is_claimed head_runs.1) (λ x. refl);
       promised = sums.stays promised_in is_promised lies v w6 q lie u6 head_is (ap is_promised head_runs.1) (λ x. refl);
       given = sums.stays given_in is_given lies v w6 q lie u6 head_is (ap is_given head_runs.1) (λ x. refl);
@@ -1002,6 +1091,7 @@ module _ (j : Setup) (lies : Lies) (s : State Slots View) (f : Facts j lies s) (
           berth = head_agrees.berth;
           answers = head_agrees.answers;
           count = ap suc head_agrees.count;
+          indexes = head_agrees.indexes;
           forks = cores.ends_forks j f.laws lies (elements l2 s.words) f.core q lie head_is head_running fault stop_lie u6 refl
               ∙ head_agrees.forks;
         }

@@ -1,5 +1,5 @@
 -- The kinds of step as the calls tell them.
-use Rattle.std.proofs.Common.{◌≡◌, ◌≢◌, ℕ, suc, ◌*◌, ◌<◌, ◌==◌, cond, List, [], ◌∷◌, ◌++◌, get_or, slice_index, sym, ap, ◌∙◌, subst, arith, Option, Some}
+use Rattle.std.proofs.Common.{◌≡◌, ◌≢◌, ℕ, suc, ◌*◌, ◌<◌, ◌==◌, cond, List, [], ◌∷◌, ◌++◌, get_or, slice_index, sym, ap, ◌∙◌, subst, arith, Option, Some, false}
 use mathlib.Core.Option.{none, some, some-injective}
 use prog.Atomic.{either}
 use lib.ListN.{get_elem?}
@@ -11,7 +11,7 @@ use Rattle.kt_law.specs.declared.stands.Stand.{Stand}
 use Rattle.kt_law.specs.declared.stands.Stand.TheVariants as S
 use Rattle.kt_order.specs.Body.{Do, Stop}
 use Rattle.kt_order.specs.Machine.{Code}
-use Rattle.kt_order.specs.Rest.{left}
+use Rattle.kt_order.specs.Rest.{left, standing}
 use Rattle.kt_prog.specs.Script.{Fault}
 use Rattle.kt_rights.specs.Acts.{is_load, effect}
 use Rattle.kt_prog.specs.Store.{place_of}
@@ -42,6 +42,7 @@ use Rattle.kt_steps.proofs.Steps.{inside}
 use Rattle.kt_steps.proofs.Asides.{loads_stop}
 use Rattle.kt_steps.proofs.Claiming.{claims_own, claims_for, starts_given, starts_promised, finishes, does}
 use Rattle.kt_steps.proofs.Looks.{looks_own_state, looks_given_state, looks_promised_state, looks_running_state, stands_at}
+use Rattle.kt_order.specs.Stand.{Standing}
 
 pub the_some : {X : Type 0} → {x y : X} → Some x ≡ Some y → x ≡ y
 the_some h = cc
@@ -233,11 +234,12 @@ module _ (opening : List ℕ) (slots id : ℕ) (me : Me Slots View) (j : Setup) 
       first e = cc
 
   pub finishes_at : (e : Execution) (rest : List Execution) (i new : ℕ) (fault : Option Fault) → me.0.tasks.running ≡ e ∷ rest
+      → (st : Standing (machine_of j.program)) → standing (machine_of j.program) (task_in j e) ≡ Some st → st.over ≡ false
       → left (machine_of j.program) (task_in j e) ≡ Stop fault → ((k : ℕ) → k < e.forks → In (child e.spot.path k) me.0.seen.known)
       → i ≡ state_place (layout_of j) e.spot.berth.at → new ≡ state_word e.spot.berth S.Finished
       → Allows (Holds opening) slots id me i (λ _. new) (λ _. Tells EndsAt (step slots i new 0 none) me new)
-  finishes_at e rest i new fault runs next children i_is new_is s h out at word =
-      let d = finishes opening slots id me j e rest i new fault setup live runs next children i_is new_is s h out at word in
+  finishes_at e rest i new fault runs st stands still next children i_is new_is s h out at word =
+      let d = finishes opening slots id me j e rest i new fault setup live runs st stands still next children i_is new_is s h out at word in
       (d.0, d.1, d.2, d.3, ((λ o others too. d.4.0 ∙ both (sym runs ∙ too)), d.4.1))
     where
       both : {y : Execution} → {ys : List Execution} → e ∷ rest ≡ y ∷ ys → ends me.0 e rest ≡ ends me.0 y ys

@@ -1,7 +1,7 @@
 -- The laws of the rule: what is shown between any two steps, and for each kind of step that changes the shown core
 -- which event of a run it enters, that the event is enabled there, and that the core after the step is the one that the
 -- event makes. Every other kind leaves the shown core as it is.
-use Rattle.std.specs.Prelude.{◌≡◌, ℕ, suc, ◌<◌, ◌≤◌, List, [], ◌∷◌, set, length, slice_index, Option}
+use Rattle.std.specs.Prelude.{◌≡◌, ℕ, suc, ◌<◌, ◌≤◌, false, List, [], ◌∷◌, set, length, slice_index, Option}
 use mathlib.Core.Option.{some}
 use lib.ListN.{get_elem?}
 use Rattle.atomic_table.specs.Table.{State}
@@ -99,11 +99,11 @@ ActEnters = (j : Setup) (s : State Slots View) → IsRuled j s → (id : ℕ) (v
     (effect d.deed (word_at (layout_of j) s.words (element_word (place_of j.program.families d)))) id
     (does_one v d (word_at (layout_of j) s.words (element_word (place_of j.program.families d))) e rest))
 
--- the store that finishes the task of the running body, which is at its end or at a fault
+-- the store that finishes the task of the running body, which is at its end or at a fault, and is no loop that has begun
 abbrev pub FinishEnters : Type 0
 FinishEnters = (j : Setup) (s : State Slots View) → IsRuled j s → (id : ℕ) (v : View) → IsSeat s id v
     → (e : Execution) (rest : List Execution)
-    → v.tasks.running ≡ e ∷ rest → (fault : Option Fault) → left (machine_of j.program) (task_in j e) ≡ Stop fault
+    → v.tasks.running ≡ e ∷ rest → e.looping ≡ false → (fault : Option Fault) → left (machine_of j.program) (task_in j e) ≡ Stop fault
     → ((k : ℕ) → k < e.forks → In (child e.spot.path k) v.seen.known)
     → Enters j (Finishes e.spot.path) s (after_step s (state_place (layout_of j) e.spot.berth.at) (state_word e.spot.berth S.Finished) id
     (ends v e rest))

@@ -1,5 +1,5 @@
 -- What the steps of the calls tell, in words that name no seat's lists but those of its view.
-use Rattle.std.specs.Prelude.{◌≡◌, ◌≢◌, ◌<◌, ◌*◌, ℕ, List, ◌∷◌, Option, Some}
+use Rattle.std.specs.Prelude.{◌≡◌, ◌≢◌, ◌<◌, ◌*◌, ℕ, List, ◌∷◌, Option, Some, false}
 use mathlib.Core.Option.{some}
 use lib.ListN.{get_elem?}
 use Rattle.atomic_table.specs.Table.{Step}
@@ -8,7 +8,8 @@ use Rattle.kt_law.specs.declared.stands.Stand.{Stand}
 use Rattle.kt_law.specs.declared.stands.Stand.TheVariants as S
 use Rattle.kt_order.specs.Body.{Do, Stop}
 use Rattle.kt_order.specs.Machine.{Code}
-use Rattle.kt_order.specs.Rest.{left}
+use Rattle.kt_order.specs.Rest.{standing, left}
+use Rattle.kt_order.specs.Stand.{Standing}
 use Rattle.kt_prog.specs.Script.{Fault}
 use Rattle.kt_prog.specs.Reference.{machine_of}
 use Rattle.kt_prog.specs.Store.{place_of}
@@ -124,7 +125,7 @@ pub record IsDueOn (v : View) (element : ℕ) (deed : Deed) : Type 0 where
 abbrev pub IsMine : View → ℕ → Spot → Type 0
 IsMine v at m = (a : ℕ) × (get_elem? v.region.spots a ≡ some m) × (m.berth.at ≡ at)
 
--- the running body is of the record with this number, it is at its end or at a fault, and its children are known finished
+-- the running body is of the record with this number, its end or a fault is its next operation, and its children are known finished
 pub record IsEnded (v : View) (at : ℕ) : Type 0 where
   pub setup : Setup
   pub told : v.setup ≡ Some setup
@@ -132,6 +133,9 @@ pub record IsEnded (v : View) (at : ℕ) : Type 0 where
   pub rest : List Execution
   pub runs : v.tasks.running ≡ head ∷ rest
   pub lies : head.spot.berth.at ≡ at
+  pub st : Standing (machine_of setup.program)
+  pub stands : standing (machine_of setup.program) (task_in setup head) ≡ Some st
+  pub still : st.over ≡ false
   pub fault : Option Fault
   pub next : left (machine_of setup.program) (task_in setup head) ≡ Stop fault
   pub children : (k : ℕ) → k < head.forks → In (child head.spot.path k) v.seen.known

@@ -26,7 +26,7 @@ use Rattle.kt_rule.specs.Records.{layout_of, word_at, elements}
 use Rattle.kt_rule.specs.Facts.{IsPublished}
 use Rattle.kt_rule.specs.Rule.{Slots, Facts, Holds}
 use Rattle.kt_rule.specs.Steps.{Tells, state_place, state_word, IsState}
-use Rattle.kt_rule.proofs.Cores.{last_of, all_tasks}
+use Rattle.kt_rule.proofs.Cores.{last_of}
 use Rattle.kt_rule.proofs.Moves.{learned}
 use Rattle.kt_rule.proofs.Sums.{in_cons}
 use Rattle.kt_rule.proofs.Words.{never_empty, says_state, says_field}
@@ -43,12 +43,6 @@ pub further : (p : Path) (k : ℕ) (rest : Path) → child p k ++ rest ≡ p ++ 
 further [] k rest = refl
 further (x ∷ p) k rest = ap (λ (z : Path). x ∷ z) (further p k rest)
 
--- a path is there where one is that leads on from it
-there_before : (depth : ℕ) (count : Path → ℕ) (p rest : Path) → IsThere depth count (p ++ rest) → IsThere depth count p
-there_before depth count [] rest h = tt
-there_before zero count (k ∷ p) rest h = absurd h
-there_before (suc depth) count (k ∷ p) rest h = (h.0, there_before depth (shift k count) p rest h.1)
-
 call_deep : (p : Program) (call : CallTree) → Fits p call → call.depth ≤ DEPTH
 call_deep p call (is_main e) = subst (λ (c : CallTree). c.depth ≤ DEPTH) (sym e) (omega arith)
 call_deep p call (is_call t at fits) = fits.deep
@@ -58,8 +52,8 @@ call_deep p call (is_call t at fits) = fits.deep
 module _ (j : Setup) (lies : Lies) (s : State Slots View) (f : Facts j lies s) where
   -- a task lies at each path above
   lies_above : (p rest : Path) (t : Lie) → lies (p ++ rest) ≡ some t → (u : Lie) × (lies p ≡ some u)
-  lies_above p rest t is = all_tasks j lies (elements (layout_of j) s.words) f.core p
-      (there_before levels (counts_of j lies) p rest (f.core.there (p ++ rest) t is))
+  lies_above p [] t is = (t, ap lies (sym (append-nil p)) ∙ is)
+  lies_above p (k ∷ rest) t is = let c = lies_above (child p k) rest t (ap lies (further p k rest) ∙ is) in f.core.parents p k c.0 c.1
 
   -- and it lives
   lives_above : (rest p : Path) (t u : Lie) → lies p ≡ some t → lies (p ++ rest) ≡ some u → is_gone u.stage ≡ false

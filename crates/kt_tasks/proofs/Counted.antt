@@ -31,7 +31,7 @@ use Rattle.kt_rule.proofs.Moves.{at_below}
 use Rattle.kt_rule.proofs.Puts.{get_at, same_is}
 use Rattle.kt_rule.proofs.Sums.{weigh_one, times_append, times_in, map_long}
 use Rattle.kt_steps.proofs.Drawing.{as_long, begun_few, weigh_less, zero_or}
-use Rattle.kt_steps.proofs.Steps.{head_is, head_task}
+use Rattle.kt_steps.proofs.Steps.{at_head, plain_at_fork, head_is, head_task}
 use Rattle.kt_tasks.specs.Claims.{AreFew}
 use Rattle.kt_tasks.specs.Publications.{AreCounted}
 
@@ -142,13 +142,14 @@ module _ (j : Setup) (lies : Lies) (s : State Slots View) (f : Facts j lies s) (
   pub fits_next : (e : Execution) (rest : List Execution) → v.tasks.running ≡ e ∷ rest → (c : Placed) (more : Code (machine_of j.program))
       → left (machine_of j.program) (task_in j e) ≡ Fork c more → (call : CallTree) → c.job ≡ Whole call → Fits j.program call
   fits_next e rest runs c more next call call_is =
-      let is = head_is j lies s f id v at live e rest runs in
+      let plain = plain_at_fork j lies s f id v at e (at_head v e rest runs) c more next in
+      let is = head_is j lies s f id v at live e rest runs plain in
       at_path (machine_of j.program) levels (rights_in j.program) f.laws main_placed (opened_with j.program.families j.input)
       (Fits j.program call) e.spot.path (core_of j lies (elements (layout_of j) s.words)) (f.core.there e.spot.path _ is) f.core.lawful
       (λ kids ok. subst (FitsJob j.program) call_is
       (forked_fits (machine_of j.program) (rights_in j.program) f.laws c more (get_of j lies e.spot.path) kids
       (ap (left (machine_of j.program)) (get_at j lies e.spot.path _ is)
-      ∙ (ap (left (machine_of j.program)) (head_task j lies s f id v at live e rest runs) ∙ next)) ok))
+      ∙ (ap (left (machine_of j.program)) (head_task j lies s f id v at live e rest runs plain) ∙ next)) ok))
 
   pub counted : (n : ℕ) → n ≡ word_at (layout_of j) s.words drawn_at → v.setup ≡ Some j → AreCounted v n
   counted n n_is told = record {

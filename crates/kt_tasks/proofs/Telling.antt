@@ -35,7 +35,7 @@ use Rattle.kt_rule.specs.Steps.{Tells, state_place, state_word, BeforeKnown, won
 use Rattle.kt_rule.proofs.Moves.{at_below}
 use Rattle.kt_rule.proofs.Puts.{get_at}
 use Rattle.kt_rule.proofs.Words.{says_field}
-use Rattle.kt_steps.proofs.Steps.{inside, same_state}
+use Rattle.kt_steps.proofs.Steps.{inside, same_state, runs_live}
 use Rattle.kt_steps.proofs.Asides.{builds_one}
 use Rattle.kt_steps.proofs.Drawing.{draws}
 use Rattle.kt_steps.proofs.Fresh.{publishes}
@@ -185,7 +185,7 @@ module _ (opening : List ℕ) (slots id : ℕ) (me : Me Slots View) (j : Setup) 
     in_hand m (inr (e, runs, e_is)) = let g = (f.fits id me.0 at).running e runs in (
       g.0,
       ap (λ (z : Spot). lies z.path) (sym e_is) ∙ g.1,
-      ap is_gone g.3.1,
+      ap is_gone g.3.1 ∙ runs_live e.looping g.3.0,
       g.2.berth ∙ ap (λ (z : Spot). z.berth) e_is,
     )
 

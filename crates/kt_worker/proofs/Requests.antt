@@ -5,15 +5,16 @@ use Rattle.kt_words.specs.Words.{packed_post, packed_pair}
 use Rattle.kt_words.specs.declared.posts.Post.{Post}
 use Rattle.kt_words.specs.declared.posts.Post.TheVariants as P
 use Rattle.kt_rule.specs.declared.views.Spot.{Spot}
+use Rattle.kt_rule.specs.declared.views.Share.{Share}
 use Rattle.kt_rule.specs.declared.views.View.{View}
 use Rattle.kt_rule.specs.Lists.{In}
 use Rattle.kt_posts.specs.Answered.{Settled}
-use Rattle.kt_posts.specs.Desks.{finds_busy, freed, gets_piece, leads_now, posts, sees, takes_task}
+use Rattle.kt_posts.specs.Desks.{finds_busy, freed, gets_piece, leads_now, pair_of, posts, sees, takes_piece, takes_task}
 use Rattle.kt_calls.specs.Ranges.{IsOfCrew, IsRecord, IsWorker}
 use Rattle.kt_calls.specs.Serving.{Serves}
 use Rattle.kt_posts.specs.declared.answers.Answer.{Answer}
 use Rattle.kt_posts.specs.declared.answers.Answer.TheVariants as A
-use Rattle.kt_worker.specs.Asking.{Asks, Came, IsAnswered, IsIdle, Learnt, Tried, WasGiven}
+use Rattle.kt_worker.specs.Asking.{Asks, Came, IsAnswered, IsIdle, Learnt, Tried, WasGiven, WasGivenPiece}
 use Rattle.kt_worker.proofs.Stands.{crew_same, record_same}
 
 -- what may be otherwise, taken from another view
@@ -22,6 +23,7 @@ learns v x = record v {
   tasks = record v.tasks { claimed = x.tasks.claimed; given = x.tasks.given };
   seen = record v.seen { known = x.seen.known; notes = x.seen.notes };
   desk = x.desk;
+  loops = record v.loops { pieces = x.loops.pieces };
 }
 
 -- nothing else is otherwise in this view
@@ -44,6 +46,7 @@ pub posted : (v w : View) (victim : ℕ) → IsIdle v → w ≡ posts v victim �
 posted v w victim idle same = record {
   learnt = learnt_of v w (posts v victim) same refl refl;
   given = ap (λ (y : View). y.tasks.given) same;
+  pieces = ap (λ (y : View). y.loops.pieces) same;
   free = ap (λ (y : View). y.desk.free) same;
   leads = ap (λ (y : View). y.desk.leads) same ∙ idle.leads;
 }
@@ -53,17 +56,20 @@ pub led : (v w x : View) (victim : ℕ) → v.desk.free ≡ false → w ≡ lead
 led v w x victim free won s =
     let first : Learnt v w = learnt_of v w (leads_now v victim) won refl refl in
     let given : x.tasks.given ≡ w.tasks.given = ap (λ (y : View). y.tasks.given) s.same in
+    let pieces : x.loops.pieces ≡ w.loops.pieces = ap (λ (y : View). y.loops.pieces) s.same in
     let then_ : Learnt w x = record {
-      same = s.same ∙ ap (λ (gs : List Spot). record w {
-        tasks = record w.tasks { claimed = x.tasks.claimed; given = gs };
+      same = s.same ∙ (λ i. record w {
+        tasks = record w.tasks { claimed = x.tasks.claimed; given = sym given i };
         seen = record w.seen { known = x.seen.known; notes = x.seen.notes };
         desk = x.desk;
-      }) (sym given);
+        loops = record w.loops { pieces = sym pieces i };
+      });
       known = s.known;
     } in
     record {
       learnt = learnt_both v w x first then_;
       given = given ∙ ap (λ (y : View). y.tasks.given) won;
+      pieces = pieces ∙ ap (λ (y : View). y.loops.pieces) won;
       free = s.free ∙ ap (λ (y : View). y.desk.free) won ∙ free;
       leads = s.leads;
     }
@@ -72,12 +78,13 @@ pub not_led : (v w : View) (victim word : ℕ) → v.desk.free ≡ false → v.d
 not_led v w victim word free leads same = record {
   learnt = learnt_of v w (finds_busy v victim word) same refl refl;
   given = ap (λ (y : View). y.tasks.given) same;
+  pieces = ap (λ (y : View). y.loops.pieces) same;
   free = ap (λ (y : View). y.desk.free) same ∙ free;
   leads = ap (λ (y : View). y.desk.leads) same ∙ leads;
 }
 
 pub asks_both : (v w x : View) → Asks v w → Asks w x → Asks v x
-asks_both v w x f g = record { learnt = learnt_both v w x f.learnt g.learnt; given = g.given ∙ f.given; free = g.free; leads = g.leads }
+asks_both v w x f g = record { learnt = learnt_both v w x f.learnt g.learnt; given = g.given ∙ f.given; pieces = g.pieces ∙ f.pieces; free = g.free; leads = g.leads }
 
 answered_both : (v w x : View) → Asks v w → IsAnswered w x → IsAnswered v x
 answered_both v w x f g = record { learnt = learnt_both v w x f.learnt g.learnt; free = g.free; leads = g.leads }
@@ -85,9 +92,13 @@ answered_both v w x f g = record { learnt = learnt_both v w x f.learnt g.learnt;
 pub tried_both : (v w x : View) (a : Answer) → Asks v w → Tried w x a → Tried v x a
 tried_both v w x A.NotYet f g = asks_both v w x f g
 tried_both v w x A.Withdrawn f g = g
-tried_both v w x A.Failed f g = (answered_both v w x f g.0, g.1)
-tried_both v w x (A.Task at) f g = (answered_both v w x f g.0, g.1)
-tried_both v w x (A.Piece at piece) f g = (answered_both v w x f g.0, g.1)
+tried_both v w x A.Failed f g = (answered_both v w x f g.0, g.1, g.2 ∙ f.pieces)
+tried_both v w x (A.Task at) f g = (answered_both v w x f g.0, g.1, g.2 ∙ f.pieces)
+tried_both v w x (A.Piece at pair) f g = let h = g.2 in (
+  answered_both v w x f g.0,
+  g.1,
+  record { piece = h.piece; is = h.is ∙ ap (λ (xs : List Share). h.piece ∷ xs) f.pieces; lies = h.lies; pair_is = h.pair_is },
+)
 
 pub setup_of : (v w : View) → Learnt v w → w.setup ≡ v.setup
 setup_of v w l = ap (λ (y : View). y.setup) l.same
@@ -112,6 +123,7 @@ settled u w (P.Posted victim) a given free leads inside (is, same) =
     subst (Tried u w) (sym is) (record {
       learnt = learnt_of u w (sees u (packed_post (P.Posted victim)) false) same refl refl;
       given = ap (λ (y : View). y.tasks.given) same;
+      pieces = ap (λ (y : View). y.loops.pieces) same;
       free = ap (λ (y : View). y.desk.free) same ∙ free;
       leads = ap (λ (y : View). y.desk.leads) same ∙ leads;
     })
@@ -119,6 +131,7 @@ settled u w (P.Held victim) a given free leads inside (is, same) =
     subst (Tried u w) (sym is) (record {
       learnt = learnt_of u w (sees u (packed_post (P.Held victim)) false) same refl refl;
       given = ap (λ (y : View). y.tasks.given) same;
+      pieces = ap (λ (y : View). y.loops.pieces) same;
       free = ap (λ (y : View). y.desk.free) same ∙ free;
       leads = ap (λ (y : View). y.desk.leads) same ∙ leads;
     })
@@ -130,6 +143,7 @@ settled u w P.Failed a given free leads inside (is, same) =
         leads = ap (λ (y : View). y.desk.leads) same ∙ leads;
       },
       ap (λ (y : View). y.tasks.given) same ∙ given,
+      ap (λ (y : View). y.loops.pieces) same,
     )
 settled u w (P.Task at) a given free leads inside (is, (m, lies, same, _)) =
     subst (Tried u w) (sym is) (
@@ -144,15 +158,17 @@ settled u w (P.Task at) a given free leads inside (is, (m, lies, same, _)) =
         lies = lies;
         inside = record_same u w at (ap (λ (y : View). y.setup) same) (inside at is);
       },
+      ap (λ (y : View). y.loops.pieces) same,
     )
-settled u w (P.Piece at) a given free leads inside (pair, fits, is, same) =
+settled u w (P.Piece at) a given free leads inside (x, lies, fits, is, same, _) =
     subst (Tried u w) (sym is) (
       record {
-        learnt = learnt_of u w (freed (gets_piece (sees u (packed_post (P.Piece at)) true) (packed_pair pair))) same refl refl;
+        learnt = learnt_of u w (freed (takes_piece (gets_piece (sees u (packed_post (P.Piece at)) true) (packed_pair (pair_of x))) x)) same refl refl;
         free = ap (λ (y : View). y.desk.free) same;
         leads = ap (λ (y : View). y.desk.leads) same ∙ leads;
       },
       ap (λ (y : View). y.tasks.given) same ∙ given,
+      record { piece = x; is = ap (λ (y : View). y.loops.pieces) same; lies = lies; pair_is = refl },
     )
 
 pub idle_asks : (v w : View) → IsIdle v → Asks v w → w.tasks.given ≡ []

@@ -7,7 +7,7 @@ use Rattle.kt_law.specs.declared.limits.TheConstants.{TASKS, WORKERS}
 use Rattle.kt_law.specs.declared.stands.Stand.{Stand}
 use Rattle.kt_law.specs.declared.stands.Stand.TheVariants as S
 use Rattle.kt_order.specs.Body.{Stop}
-use Rattle.kt_order.specs.Rest.{left}
+use Rattle.kt_order.specs.Rest.{left, standing}
 use Rattle.kt_order.specs.Shown.{fault_of}
 use Rattle.kt_prog.specs.Reference.{machine_of}
 use Rattle.kt_prog.specs.Runs.{FaultRun}
@@ -45,6 +45,7 @@ use Rattle.kt_worker.specs.declared.stacks.Level.{Level}
 use Rattle.kt_worker.specs.declared.tallies.Tally.{Tally}
 use Rattle.kt_worker.proofs.Begun.{crew_of, extends_both, extends_same, held, quiet_of, stacked_keeps, stacked_length}
 use Rattle.kt_worker.proofs.Stands.{end_left, over_left, record_same}
+use Rattle.kt_order.specs.Stand.{Standing}
 
 -- the topmost frame, and those below it
 pub record Top (v : View) (p : Program) (l : Level) (levels : List Level) (es : List Execution) : Type 0 where
@@ -573,6 +574,10 @@ module _ (v : View) (p : Program) (t : Tally) (l : Level) (levels : List Level) 
   pub rises : Rises l.own levels
   rises = rises_from l.own on_top.e levels on_top.rest on_top.from
 
+  -- the task on top stands somewhere in its body, and goes on from there
+  abbrev StandsIn : Program → Type 0
+  StandsIn q = (st : Standing (machine_of q)) × (standing (machine_of q) (task_of q on_top.e) ≡ Some st) × (st.over ≡ false)
+
   pub may_finish : l.count ≤ l.next → IsEnded v l.at
   may_finish done = record {
     setup = c.quiet.setup;
@@ -581,11 +586,17 @@ module _ (v : View) (p : Program) (t : Tally) (l : Level) (levels : List Level) 
     rest = on_top.rest;
     runs = on_top.is;
     lies = on_top.level.at;
+    st = stands.0;
+    stands = stands.1;
+    still = stands.2;
     fault = fault_with l.ended;
     next = subst (λ (q : Program). left (machine_of q) (task_of q on_top.e) ≡ Stop (fault_with l.ended)) (sym c.quiet.program)
         (end_left p on_top.e (fault_with l.ended) on_top.level.ends);
     children = λ k lt. on_top.level.known k (let forks = on_top.level.forks in omega (arith, lt, forks, done));
   }
+    where
+      stands : StandsIn c.quiet.setup.program
+      stands = let way = on_top.level.ends.way in subst StandsIn (sym c.quiet.program) (way.st, way.is, way.still)
 
   fault_here : fault_in p (over on_top.e) ≡ fault_at on_top.e.spot.path (fault_with l.ended)
   fault_here = ap (λ (w : _). fault_at on_top.e.spot.path (fault_of (machine_of p) w)) (over_left p on_top.e (fault_with l.ended) on_top.level.ends)

@@ -1,26 +1,36 @@
 -- What a view learns while its seat asks for work and serves others meanwhile.
-use Rattle.std.specs.Prelude.{◌≡◌, ℕ, true, false, List, [], ◌∷◌, Option, None, Some}
+use Rattle.std.specs.Prelude.{◌≡◌, ◌⊎◌, ℕ, true, false, List, [], ◌∷◌, Option, None, Some}
 use Rattle.kt_runs.specs.ByPath.{Path}
+use Rattle.kt_words.specs.declared.pairs.Pair.{Pair}
 use Rattle.kt_rule.specs.declared.views.Spot.{Spot}
+use Rattle.kt_rule.specs.declared.views.Share.{Share}
 use Rattle.kt_rule.specs.declared.views.View.{View}
 use Rattle.kt_rule.specs.Lists.{In}
 use Rattle.kt_calls.specs.Ranges.{IsRecord}
+use Rattle.kt_posts.specs.Desks.{pair_of}
 use Rattle.kt_posts.specs.declared.answers.Answer.{Answer}
 use Rattle.kt_posts.specs.declared.answers.Answer.TheVariants as A
 
--- only this may be otherwise: what it claimed for others, what it was given, what it knows and noted, and its desk
+-- only this may be otherwise: what it claimed for others, what it was given, what it knows and noted, its desk, and the pieces of loops
+-- that it has in hand
 pub record Learnt (v w : View) : Type 0 where
   pub same : w ≡ record v {
     tasks = record v.tasks { claimed = w.tasks.claimed; given = w.tasks.given };
     seen = record v.seen { known = w.seen.known; notes = w.seen.notes };
     desk = w.desk;
+    loops = record v.loops { pieces = w.loops.pieces };
   }
   pub known : (p : Path) → In p v.seen.known → In p w.seen.known
+
+-- it has the pieces in hand that it had
+abbrev pub HasSamePieces : View → View → Type 0
+HasSamePieces v w = w.loops.pieces ≡ v.loops.pieces
 
 -- its request stands in its post, and it leads nobody
 pub record Asks (v w : View) : Type 0 where
   pub learnt : Learnt v w
   pub given : w.tasks.given ≡ v.tasks.given
+  pub pieces : HasSamePieces v w
   pub free : w.desk.free ≡ false
   pub leads : w.desk.leads ≡ false
 
@@ -44,16 +54,22 @@ pub record WasGiven (w : View) (at : ℕ) : Type 0 where
   pub lies : task.berth.at ≡ at
   pub inside : IsRecord w at
 
--- what came of asking: nothing, or a task
+-- it was given this piece of the loop of this record
+pub record WasGivenPiece (v w : View) (at : ℕ) (pair : Pair) : Type 0 where
+  pub piece : Share
+  pub is : w.loops.pieces ≡ piece ∷ v.loops.pieces
+  pub lies : piece.spot.berth.at ≡ at
+  pub pair_is : pair_of piece ≡ pair
+
+-- what came of asking: no task, but at most a piece, or a task
 abbrev pub Came : View → View → Option ℕ → Type 0
-Came v w None = IsAnswered v w × (w.tasks.given ≡ [])
-Came v w (Some at) = IsAnswered v w × WasGiven w at
+Came v w None = IsAnswered v w × (w.tasks.given ≡ []) × (HasSamePieces v w ⊎ ((x : Share) × (w.loops.pieces ≡ x ∷ v.loops.pieces)))
+Came v w (Some at) = IsAnswered v w × WasGiven w at × HasSamePieces v w
 
 -- what came of one try
 abbrev pub Tried : View → View → Answer → Type 0
 Tried v w A.NotYet = Asks v w
 Tried v w A.Withdrawn = ⊥
-Tried v w A.Failed = Came v w None
+Tried v w A.Failed = IsAnswered v w × (w.tasks.given ≡ []) × HasSamePieces v w
 Tried v w (A.Task at) = Came v w (Some at)
--- a piece is of a loop
-Tried v w (A.Piece at piece) = Came v w None
+Tried v w (A.Piece at pair) = IsAnswered v w × (w.tasks.given ≡ []) × WasGivenPiece v w at pair

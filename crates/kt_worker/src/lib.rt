@@ -5,6 +5,8 @@
 //! has its room from the start, and recurses over no tasks.
 //!
 //! Everything here is proved against the contracts of the calls alone, whatever stands behind them.
+//!
+//! `work` is the whole of a worker. Its parts are public for those that drive several workers step by step on one thread.
 #![tactic(auto)]
 
 mod asking;
@@ -20,6 +22,10 @@ mod turns;
 mod workers;
 mod working;
 
+pub use beginning::run_begun;
+pub use finishing::finish;
 pub use gates::{Gate, NoGate};
-pub use scratch::{Scratch, has_loops};
-pub use working::{Worked, work};
+pub use scratch::{Scratch, Tools, has_loops};
+pub use stacks::Level;
+pub use workers::Worker;
+pub use working::{Worked, first_turn, tally_of, work};

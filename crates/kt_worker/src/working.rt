@@ -30,7 +30,8 @@ fn used_at_first(worker: u32) -> u32
     if worker == 0 { 1 } else { 0 }
 }
 
-fn tally_of(worker: u32) -> Tally
+/// The numbers of a worker before its first turn.
+pub fn tally_of(worker: u32) -> Tally
     requires { worker ≤ 8 }
     ensures { result ≡ record { base = RECORDS * worker; used = (if worker == 0 then 1 else 0); begun = 0; fault = None; victim = worker } }
 {
@@ -44,7 +45,7 @@ fn tally_of(worker: u32) -> Tally
 }
 
 /// The first turn: the worker in whose region `main` lies claims it and runs its body.
-fn first_turn<'a, R: Run, G: Gate>(
+pub fn first_turn<'a, R: Run, G: Gate>(
     mut worker: Worker<'a, R>,
     tools: &mut Tools,
     gate: &G,

@@ -1,7 +1,7 @@
 use Rattle.std.proofs.Common.{arith, ◌<◌, ◌∙◌, ap, refl, sym, subst}
 use Rattle.kt_rule.specs.declared.tables.RunTable.{RunTable}
 use Rattle.kt_prog.specs.declared.runs.Ran.{Ran}
-use Rattle.kt_pool.specs.Closing.{joined_view}
+use Rattle.kt_pool.specs.Exact.{joined_view}
 use Rattle.kt_pool.specs.Seats.{AreSeatsOf, run_table, setup_of}
 use Rattle.kt_crew.specs.Crews.{AreDone, AreJobs}
 use Rattle.kt_crew.specs.Ends.{comes_to}
@@ -46,7 +46,7 @@ returns-clause-ran g c =
     (c.in_ok-done.ensures j (subst (λ (t : RunTable). AreJobs j t p c.in_ok-jobs.jobs.items) (sym c.table.ensures) jobs)) in
     let some = c.requires.some in let live : 0 < j.workers = omega arith in
     let back = subst (AreSeatsOf j t) (sym c.gather-seats.ensures.seats) (all_back j t p done live all) in
-    let h = closed_so j t p done c.gather-seats.result.0.items closed v c.gather-seats.ensures.seats refl live all c.close-closed.ensures.lists
+    let h = closed_so j t p done c.gather-seats.result.0.items closed v c.gather-seats.ensures.seats refl c.requires.runnable live all c.close-closed.ensures.lists
     (c.close-closed.ensures.limited j back) (c.close-closed.ensures.whole j back) in
     c.ran_of.ensures ∙ (ap (comes_to closed) c.gather-seats.ensures.fault ∙ is_outcome c.earlier_is_first.ensures c.first_is_answer.ensures j t p done closed v h)
 
@@ -59,7 +59,7 @@ returns-clause-once g c = λ ne.
     (c.in_ok-done.ensures j (subst (λ (t : RunTable). AreJobs j t p c.in_ok-jobs.jobs.items) (sym c.table.ensures) jobs)) in
     let some = c.requires.some in let live : 0 < j.workers = omega arith in
     let back = subst (AreSeatsOf j t) (sym c.gather-seats.ensures.seats) (all_back j t p done live all) in
-    let h = closed_so j t p done c.gather-seats.result.0.items closed v c.gather-seats.ensures.seats refl live all c.close-closed.ensures.lists
+    let h = closed_so j t p done c.gather-seats.result.0.items closed v c.gather-seats.ensures.seats refl c.requires.runnable live all c.close-closed.ensures.lists
     (c.close-closed.ensures.limited j back) (c.close-closed.ensures.whole j back) in
     is_exact c.earlier_is_first.ensures c.first_is_answer.ensures j t p done closed v h
     (λ e. ne (ap (λ (r : Ran). r.outcome) (c.ran_of.ensures ∙ ap (comes_to closed) c.gather-seats.ensures.fault) ∙ e))

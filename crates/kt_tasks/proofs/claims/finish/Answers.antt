@@ -28,7 +28,7 @@ store-requires c = let l = c.requires.live in let q = c.requires.ended in let wi
       omega arith,
       finishes_at c.args.t.now.table.shared.key.items c.args.t.now.table.shared.table_id.slots c.load-found.new.seat.id
           c.load-found.new.seat.me q.setup (ap (λ z. z.setup) same ∙ q.told)
-          (subst (λ z. 0 < z.parts) (sym same) l.live) q.head q.rest _ _ q.fault (ap (λ z. z.tasks.running) same ∙ q.runs) q.next
+          (subst (λ z. 0 < z.parts) (sym same) l.live) q.head q.rest _ _ q.fault (ap (λ z. z.tasks.running) same ∙ q.runs) q.st q.stands q.still q.next
           (λ k less. subst (λ z. In (child q.head.spot.path k) z.seen.known) (sym same) (q.children k less))
           (c.field-place.ensures.value ∙ (λ i. place (sym layout i) (record_word (sym q.lies i) 0)))
           (repacked c.state_in-state.result q.head.spot.berth

@@ -1,4 +1,4 @@
-use Rattle.std.proofs.Common.{arith, ◌≡◌, List, ◌∷◌, ap, ◌∙◌, sym}
+use Rattle.std.proofs.Common.{arith, inl, ◌≡◌, List, ◌∷◌, ap, ◌∙◌, sym}
 use Rattle.kt_words.specs.Places.{place}
 use Rattle.kt_words.specs.declared.layouts.Layout.{Layout}
 use Rattle.kt_rule.specs.Records.{layout_of, drawn_at, stop_at}
@@ -34,8 +34,8 @@ store-requires c = let l = c.requires.live in let q = c.requires.may in let wide
       c.fetch_add-drawn.ensures.0 ∙ c.requires.seat,
       omega arith,
       stores_stop c.args.t.now.table.shared.key.items c.args.t.now.table.shared.table_id.slots c.fetch_add-drawn.new.seat.id
-          c.fetch_add-drawn.new.seat.me q.setup _ (ap (λ z. z.setup) drew ∙ q.told) (omega arith) (omega arith)
-          (c.stop-stop.ensures.value ∙ (λ i. place (sym layout i) stop_at)),
+          c.fetch_add-drawn.new.seat.me q.setup _ (ap (λ z. z.setup) drew ∙ q.told) (omega arith)
+          (inl (omega arith)) (c.stop-stop.ensures.value ∙ (λ i. place (sym layout i) stop_at)),
     )
 
 pub returns-then-drawn-from-clause-published : goal.returns-then-drawn-from-clause-published
