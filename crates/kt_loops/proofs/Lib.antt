@@ -1,0 +1,17 @@
+pub mod Turning
+pub mod TurningFacts
+pub mod TurningHands
+pub mod TurningWords
+pub mod LoopCalls
+pub mod BeginSteps
+pub mod BeginStore
+pub mod OnTheWay
+pub mod BeginTelling
+pub mod BegunLoops
+pub mod IntervalSteps
+pub mod IntervalTelling
+pub mod ChunkAnswers
+pub mod SplitAnswers
+pub mod RetireSteps
+pub mod RetireTelling
+pub mod BeginAnswers

@@ -1,0 +1,4 @@
+use Rattle.kt_loops.proofs.splits.split.Given as goal
+
+abbrev pub ghosts-exchange : goal.ghosts-exchange
+ghosts-exchange a = record { parts = a.parts }
