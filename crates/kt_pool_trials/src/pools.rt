@@ -1,7 +1,7 @@
 // Pools that are closed at once.
 ghost use Rattle.std.specs.Prelude.{◌≡◌, []};
 ghost use Rattle.kt_rule.specs.declared.views.Setup.{Setup};
-ghost use Rattle.kt_pool.specs.Closing.{joined_view};
+ghost use Rattle.kt_pool.specs.Exact.{joined_view};
 ghost use Rattle.kt_pool.specs.Seats.{AreSeatsOf, HaveNotStepped, run_table};
 
 use crate::jobs::opened;
