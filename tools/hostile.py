@@ -6,7 +6,7 @@
     tools/hostile.py cut ORACLE [JOB..]      each job is cut off at every byte
 
 The jobs are those of examples/ where none are given, and the program is crates/kaapi/out/kaapi, or that of the variable KAAPI.
-Each is done by every way to answer a job, and cut off by those on one thread. ORACLE is another program that answers as kaapi does, given the same words and the
+Each is done by every way to answer a job, and cut off by those on one thread; where none are given, `gen` and `demo` are tried too. ORACLE is another program that answers as kaapi does, given the same words and the
 same input; of a Python file it is run by Python. One line a job and way tells what came out; the last line is
 `N passed, M failed`, and the status is 0 where none failed. `memory` and `streams` put tools/hostile.c before the C library, so
 they need gcc and a program that is linked with that library. Outside the gate, and no part of what is proved."""
@@ -16,6 +16,8 @@ TOP = pathlib.Path(__file__).resolve().parent.parent
 PROGRAM = os.environ.get("KAAPI", str(TOP / "crates/kaapi/out/kaapi"))
 ALONE = (["check"], ["seq"], ["sim", "3", "7"])
 WAYS = (*ALONE, ["run", "2"], ["run", "8"])
+# Words that ask for no answer to a job.
+JOBLESS = (["gen", "mul", "1", "7"], ["demo", "mul", "1", "7", "2"])
 READ_FAULT, WRITE_FAULT, NO_MEMORY = 3, 4, 10
 # Seconds after which a run counts as one that does not end.
 LONGEST = 60
@@ -116,6 +118,9 @@ def main(args):
             continue
         for words in WAYS:
             (memory if kind == "memory" else streams)(count, path.name, words, job)
+    if kind != "cut" and not rest:
+        for words in JOBLESS:
+            (memory if kind == "memory" else streams)(count, "no job", words, b"")
     print(f"{count.passed} passed, {count.failed} failed")
     return count.failed > 0 or count.passed == 0
 

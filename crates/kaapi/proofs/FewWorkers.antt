@@ -1,4 +1,4 @@
--- Words that ask for a run by events, or by workers, name 1 to 8 of them.
+-- Words that ask for a run by events, or by workers, or for that of a generated job, name 1 to 8 of them.
 use Rattle.std.proofs.Common.{◌≡◌, ◌≤◌, ℕ, Bool, true, false, List, [], ◌∷◌, Some, None, Option, if◌then◌else◌, ◌&&◌, nat_le, refl, subst, arith}
 use Rattle.std.proofs.lemmas.Bool.Decides.{nat_tests}
 use Rattle.std.specs.Prelude.{bytes_eq, codes}
@@ -16,6 +16,7 @@ IsFew w = (1 ≤ w) × (w ≤ WORKERS)
 abbrev HasFew : Option Command → Type 0
 HasFew (Some (C.Sim w number)) = IsFew w
 HasFew (Some (C.Run w)) = IsFew w
+HasFew (Some (C.Demo kind size number w)) = IsFew w
 HasFew _ = Unit {0}
 
 one : (b c : Bool) → HasFew (if b then Some C.Check else if c then Some C.Seq else None)
@@ -40,12 +41,12 @@ four true (Some sized) None = tt
 four true None q = tt
 four false o q = tt
 
-five : (b : Bool) (o : Option (Kind × ℕ)) (q r : Option ℕ) → HasFew (if b then demo_of o q r else None)
-five true (Some sized) (Some number) (Some workers) = tt
-five true (Some sized) (Some number) None = tt
-five true (Some sized) None r = tt
-five true None q r = tt
-five false o q r = tt
+five : (b : Bool) (o : Option (Kind × ℕ)) (q r : Option ℕ) → ((x : ℕ) → r ≡ Some x → IsFew x) → HasFew (if b then demo_of o q r else None)
+five true (Some sized) (Some number) (Some workers) few = few workers refl
+five true (Some sized) (Some number) None few = tt
+five true (Some sized) None r few = tt
+five true None q r few = tt
+five false o q r few = tt
 
 between : (a : Bool) (x w : ℕ) → (if a && nat_le 1 x && nat_le x WORKERS then Some x else None) ≡ Some w → IsFew w
 between a x w e = grind (arith, nat_tests)
@@ -59,7 +60,7 @@ has_few (name ∷ []) = one (bytes_eq name (codes "check")) (bytes_eq name (code
 has_few (name ∷ (v ∷ [])) = two (bytes_eq name (codes "run")) (workers_of v) (named v)
 has_few (name ∷ (v ∷ (number ∷ []))) = three (bytes_eq name (codes "sim")) (workers_of v) (number_of number) (named v)
 has_few (name ∷ (kind ∷ (size ∷ (number ∷ [])))) = four (bytes_eq name (codes "gen")) (sized_of kind size) (number_of number)
-has_few (name ∷ (kind ∷ (size ∷ (number ∷ (v ∷ []))))) = five (bytes_eq name (codes "demo")) (sized_of kind size) (number_of number) (workers_of v)
+has_few (name ∷ (kind ∷ (size ∷ (number ∷ (v ∷ []))))) = five (bytes_eq name (codes "demo")) (sized_of kind size) (number_of number) (workers_of v) (named v)
 has_few (name ∷ (kind ∷ (size ∷ (number ∷ (v ∷ (x ∷ more)))))) = tt
 
 pub few_workers : (words : List (List ℕ)) (w number : ℕ) → command_of words ≡ Some (C.Sim w number) → IsFew w
@@ -67,3 +68,6 @@ few_workers words w number e = subst HasFew e (has_few words)
 
 pub few_in_crew : (words : List (List ℕ)) (w : ℕ) → command_of words ≡ Some (C.Run w) → IsFew w
 few_in_crew words w e = subst HasFew e (has_few words)
+
+pub few_in_demo : (words : List (List ℕ)) (kind : Kind) (size number w : ℕ) → command_of words ≡ Some (C.Demo kind size number w) → IsFew w
+few_in_demo words kind size number w e = subst HasFew e (has_few words)

@@ -9,28 +9,40 @@ use Rattle.kt_text.specs.declared.commands.Command.{Command}
 use Rattle.kt_text.specs.declared.commands.Command.TheVariants as C
 use Rattle.kt_gen.specs.Jobs.{IsSize}
 
-one : (b c : Bool) (k : Kind) (s n : ℕ) → (if b then Some C.Check else if c then Some C.Seq else None) ≡ Some (C.Gen k s n) → ⊥
-one true c k s n e = cc
-one false true k s n e = cc
-one false false k s n e = cc
+-- the size that is asked for is one of its kind
+abbrev HasSize : Option Command → Type 0
+HasSize (Some (C.Gen kind size number)) = IsSize kind size
+HasSize (Some (C.Demo kind size number w)) = IsSize kind size
+HasSize _ = Unit {0}
 
-two : (b : Bool) (o : Option ℕ) (k : Kind) (s n : ℕ) → (if b then run_of o else None) ≡ Some (C.Gen k s n) → ⊥
-two true (Some workers) k s n e = cc
-two true None k s n e = cc
-two false o k s n e = cc
+one : (b c : Bool) → HasSize (if b then Some C.Check else if c then Some C.Seq else None)
+one true c = tt
+one false true = tt
+one false false = tt
 
-three : (b : Bool) (o q : Option ℕ) (k : Kind) (s n : ℕ) → (if b then sim_of o q else None) ≡ Some (C.Gen k s n) → ⊥
-three true (Some workers) (Some number) k s n e = cc
-three true (Some workers) None k s n e = cc
-three true None q k s n e = cc
-three false o q k s n e = cc
+two : (b : Bool) (o : Option ℕ) → HasSize (if b then run_of o else None)
+two true (Some workers) = tt
+two true None = tt
+two false o = tt
 
-five : (b : Bool) (o : Option (Kind × ℕ)) (q r : Option ℕ) (k : Kind) (s n : ℕ) → (if b then demo_of o q r else None) ≡ Some (C.Gen k s n) → ⊥
-five true (Some sized) (Some number) (Some workers) k s n e = cc
-five true (Some sized) (Some number) None k s n e = cc
-five true (Some sized) None r k s n e = cc
-five true None q r k s n e = cc
-five false o q r k s n e = cc
+three : (b : Bool) (o q : Option ℕ) → HasSize (if b then sim_of o q else None)
+three true (Some workers) (Some number) = tt
+three true (Some workers) None = tt
+three true None q = tt
+three false o q = tt
+
+four : (b : Bool) (o : Option (Kind × ℕ)) (q : Option ℕ) → ((x : Kind × ℕ) → o ≡ Some x → IsSize x.0 x.1) → HasSize (if b then gen_of o q else None)
+four true (Some x) (Some number) fits = fits x refl
+four true (Some x) None fits = tt
+four true None q fits = tt
+four false o q fits = tt
+
+five : (b : Bool) (o : Option (Kind × ℕ)) (q r : Option ℕ) → ((x : Kind × ℕ) → o ≡ Some x → IsSize x.0 x.1) → HasSize (if b then demo_of o q r else None)
+five true (Some x) (Some number) (Some workers) fits = fits x refl
+five true (Some x) (Some number) None fits = tt
+five true (Some x) None r fits = tt
+five true None q r fits = tt
+five false o q r fits = tt
 
 between : (a : Bool) (x n high : ℕ) → (if a && nat_le 1 x && nat_le x high then Some x else None) ≡ Some n → (1 ≤ n) × (n ≤ high)
 between a x n high e = grind (arith, nat_tests)
@@ -48,23 +60,19 @@ sized : (o : Option Kind) (word : List ℕ) (x : Kind × ℕ) → size_of o word
 sized (Some kind) word x e = chosen kind _ x (λ n h. between (is_number word) (value_of word) n (largest_of kind) h) e
 sized None word x e = cc
 
-four : (b : Bool) (o : Option (Kind × ℕ)) (q : Option ℕ) (k : Kind) (s n : ℕ) → ((x : Kind × ℕ) → o ≡ Some x → IsSize x.0 x.1) →
-    (if b then gen_of o q else None) ≡ Some (C.Gen k s n) → IsSize k s
-four true (Some x) (Some number) k s n fits e =
-    let kind : x.0 ≡ k = cc in
-    let size : x.1 ≡ s = cc in
-    subst (λ (k : Kind). IsSize k s) kind (subst (λ (s : ℕ). IsSize x.0 s) size (fits x refl))
-four true (Some x) None k s n fits e = cc
-four true None q k s n fits e = cc
-four false o q k s n fits e = cc
+has_size : (words : List (List ℕ)) → HasSize (command_of words)
+has_size [] = tt
+has_size (name ∷ []) = one (bytes_eq name (codes "check")) (bytes_eq name (codes "seq"))
+has_size (name ∷ (v ∷ [])) = two (bytes_eq name (codes "run")) (workers_of v)
+has_size (name ∷ (v ∷ (number ∷ []))) = three (bytes_eq name (codes "sim")) (workers_of v) (number_of number)
+has_size (name ∷ (kind ∷ (size ∷ (number ∷ [])))) =
+    four (bytes_eq name (codes "gen")) (sized_of kind size) (number_of number) (λ x h. sized (kind_of kind) size x h)
+has_size (name ∷ (kind ∷ (size ∷ (number ∷ (v ∷ []))))) =
+    five (bytes_eq name (codes "demo")) (sized_of kind size) (number_of number) (workers_of v) (λ x h. sized (kind_of kind) size x h)
+has_size (name ∷ (kind ∷ (size ∷ (number ∷ (v ∷ (x ∷ more)))))) = tt
 
-pub fit_size : (words : List (List ℕ)) (k : Kind) (s n : ℕ) → command_of words ≡ Some (C.Gen k s n) → IsSize k s
-fit_size [] k s n e = cc
-fit_size (name ∷ []) k s n e = absurd (one (bytes_eq name (codes "check")) (bytes_eq name (codes "seq")) k s n e)
-fit_size (name ∷ (v ∷ [])) k s n e = absurd (two (bytes_eq name (codes "run")) (workers_of v) k s n e)
-fit_size (name ∷ (v ∷ (number ∷ []))) k s n e = absurd (three (bytes_eq name (codes "sim")) (workers_of v) (number_of number) k s n e)
-fit_size (name ∷ (kind ∷ (size ∷ (number ∷ [])))) k s n e =
-    four (bytes_eq name (codes "gen")) (sized_of kind size) (number_of number) k s n (λ x h. sized (kind_of kind) size x h) e
-fit_size (name ∷ (kind ∷ (size ∷ (number ∷ (v ∷ []))))) k s n e =
-    absurd (five (bytes_eq name (codes "demo")) (sized_of kind size) (number_of number) (workers_of v) k s n e)
-fit_size (name ∷ (kind ∷ (size ∷ (number ∷ (v ∷ (x ∷ more)))))) k s n e = cc
+pub fit_size : (words : List (List ℕ)) (kind : Kind) (size number : ℕ) → command_of words ≡ Some (C.Gen kind size number) → IsSize kind size
+fit_size words kind size number e = subst HasSize e (has_size words)
+
+pub fit_demo : (words : List (List ℕ)) (kind : Kind) (size number w : ℕ) → command_of words ≡ Some (C.Demo kind size number w) → IsSize kind size
+fit_demo words kind size number w e = subst HasSize e (has_size words)

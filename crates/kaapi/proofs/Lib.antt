@@ -5,3 +5,5 @@ pub mod FewWorkers
 pub mod FitSizes
 pub mod Records
 pub mod WithoutLoops
+pub mod Counts
+pub mod Completed

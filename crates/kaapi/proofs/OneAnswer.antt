@@ -6,6 +6,7 @@ use Rattle.kt_law.specs.declared.places.Place.{Place}
 use Rattle.kt_law.specs.declared.places.Refusal.{Refusal}
 use Rattle.kt_text.specs.Data.{numbers}
 use Rattle.kt_text.specs.declared.commands.Command.{Command}
+use Rattle.kt_text.specs.declared.commands.Kind.{Kind as JobKind}
 use Rattle.kt_text.specs.declared.commands.Command.TheVariants as C
 use Rattle.kt_text.specs.declared.data.DataError.{DataError}
 use Rattle.kt_text.specs.declared.data.DataError.TheVariants as D
@@ -23,17 +24,22 @@ use Rattle.kt_open.specs.Answers.{IsAnswer as I, Unopens as U}
 use Rattle.kt_open.specs.Answers.IsRefused.{unread, broken}
 use Rattle.kt_read.specs.Jobs.{IsJob}
 use Rattle.kt_read.specs.Laws.{OneJob, OneRefusal, JobIsRead}
-use Rattle.kaapi.specs.Answers.{AnswersCheck, AnswersRun, AnswersJob, AnswersCommand, AnswersThreads, answered_by, told}
-use Rattle.kaapi.specs.Answers.{AnswersCheck as K, AnswersThreads as T}
+use Rattle.kt_worker.specs.Programs.{has_loop}
+use Rattle.kaapi.specs.Answers.{AnswersCheck, AnswersRun, AnswersJob, AnswersCommand, AnswersDemo, AnswersThreads, answered_by, told}
+use Rattle.kaapi.specs.Answers.{AnswersCheck as K, AnswersDemo as M, AnswersThreads as T}
 use Rattle.kaapi.specs.Answers.AnswersJob.{too_long, within}
 use Rattle.kaapi.specs.Exits.{number_of}
 use Rattle.kaapi.specs.Laws.{OneAnswer}
+use Rattle.kaapi.specs.Totals.{totals_of}
 use Rattle.kaapi.specs.declared.exits.Exit.{Exit}
 use Rattle.kaapi.specs.declared.exits.Exit.TheVariants as E
 use Rattle.kaapi.proofs.JobReplies.{never_accepted, not_accepted}
 
 same_some : {A : Type 0} {o : Option A} {a b : A} → o ≡ Some a → o ≡ Some b → a ≡ b
 same_some h k = cc
+
+no_two : (p q : Program) → p ≡ q → has_loop p.tasks ≡ false → has_loop q.tasks ≡ true → ⊥
+no_two p q same none loop = let both : has_loop p.tasks ≡ has_loop q.tasks = ap (λ (p : Program). has_loop p.tasks) same in cc
 
 -- what is told of two answers to the data that begin at one place, of which so many are wanted
 one_error : {r : Result (List ℕ) DataError} {d e : DataError} → r ≡ Err d → r ≡ Err e → d ≡ e
@@ -44,6 +50,15 @@ one_input h k = cc
 
 no_input : {r : Result (List ℕ) DataError} {a : List ℕ} {e : DataError} → r ≡ Ok a → r ≡ Err e → ⊥
 no_input h k = cc
+
+one_demo : (kind : JobKind) (size number : ℕ) (a b : Said Exit) → AnswersDemo kind size number a → AnswersDemo kind size number b → a ≡ b
+one_demo kind size number a b (M.totals {p} {input} g none) (M.totals {p = q} {input = numbers} k also) =
+    let programs : p ≡ q = g.tree ∙ sym k.tree in
+    let inputs : input ≡ numbers = g.numbers ∙ sym k.numbers in
+    ap (λ (p : Program). told E.Done (totals_of p input)) programs ∙ ap (λ (input : List ℕ). told E.Done (totals_of q input)) inputs
+one_demo kind size number a b (M.totals {p} {input} g none) (M.loops {p = q} {input = numbers} k loop) = absurd (no_two p q (g.tree ∙ sym k.tree) none loop)
+one_demo kind size number a b (M.loops {p} {input} g loop) (M.totals {p = q} {input = numbers} k none) = absurd (no_two q p (k.tree ∙ sym g.tree) none loop)
+one_demo kind size number a b (M.loops g loop) (M.loops k also) = refl
 
 module _ (one_job : OneJob) (one_refusal : OneRefusal) (is_read : JobIsRead) where
   one_refused : (bytes : List ℕ) (r s : Refusal) → IsRefused bytes r → IsRefused bytes s → r ≡ s
@@ -167,7 +182,7 @@ module _ (one_job : OneJob) (one_refusal : OneRefusal) (is_read : JobIsRead) whe
   one_command (Some (C.Sim workers number)) job a b h k = one_job_answer AnswersRun job (one_run_answer job) a b h k
   one_command (Some (C.Gen kind size number)) job a b h k = h ∙ sym k
   one_command (Some (C.Run workers)) job a b h k = one_job_answer AnswersThreads job (one_by_threads job) a b h k
-  one_command (Some (C.Demo kind size number workers)) job a b h k = h ∙ sym k
+  one_command (Some (C.Demo kind size number workers)) job a b h k = one_demo kind size number a b h k
   one_command None job a b h k = h ∙ sym k
 
 pub one_answer : OneJob → OneRefusal → JobIsRead → OneAnswer

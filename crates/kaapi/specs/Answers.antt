@@ -18,6 +18,7 @@ use Rattle.kt_open.specs.Answers.{Answered, IsAnswer, IsRefused}
 use Rattle.kt_read.specs.Jobs.{IsJob}
 use Rattle.kt_worker.specs.Programs.{has_loop}
 use Rattle.kaapi.specs.Exits.{number_of}
+use Rattle.kaapi.specs.Totals.{IsGenerated, totals_of}
 use Rattle.kaapi.specs.declared.exits.Exit.{Exit}
 use Rattle.kaapi.specs.declared.exits.Exit.TheVariants as E
 use Rattle.kaapi.specs.declared.asked.Asked.{Asked}
@@ -68,6 +69,12 @@ pub data AnswersThreads (job : List ℕ) : Said Exit → Type 0 where
   as_run : {reply : Said Exit} → (DeclaresLoop job → ⊥) → AnswersRun job reply → AnswersThreads job reply
   loops : DeclaresLoop job → AnswersThreads job not_built
 
+-- to `demo`: the totals of the reference run of the generated job, unless its program declares a loop
+pub data AnswersDemo (kind : Kind) (size number : ℕ) : Said Exit → Type 0 where
+  totals : {p : Program} {input : List ℕ} → IsGenerated kind size number p input → has_loop p.tasks ≡ false →
+      AnswersDemo kind size number (told E.Done (totals_of p input))
+  loops : {p : Program} {input : List ℕ} → IsGenerated kind size number p input → has_loop p.tasks ≡ true → AnswersDemo kind size number not_built
+
 -- to words that ask for an answer to a job, of which there may be so many bytes; `Given` says what a job of so few is answered
 pub data AnswersJob (Given : List ℕ → Said Exit → Type 0) (job : List ℕ) : Said Exit → Type 0 where
   too_long : JOB < length job → AnswersJob Given job (told E.TooLong L.TooLong)
@@ -84,7 +91,7 @@ AnswersCommand (Some C.Seq) job reply = AnswersJob AnswersRun job reply
 AnswersCommand (Some (C.Sim workers number)) job reply = AnswersJob AnswersRun job reply
 AnswersCommand (Some (C.Gen kind size number)) job reply = reply ≡ generated kind size number
 AnswersCommand (Some (C.Run workers)) job reply = AnswersJob AnswersThreads job reply
-AnswersCommand (Some (C.Demo kind size number workers)) job reply = reply ≡ not_built
+AnswersCommand (Some (C.Demo kind size number workers)) job reply = AnswersDemo kind size number reply
 AnswersCommand None job reply = reply ≡ told E.Usage L.Usage
 
 abbrev pub Answers : List (List ℕ) → List ℕ → Said Exit → Type 0

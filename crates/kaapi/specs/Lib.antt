@@ -1,4 +1,5 @@
 pub mod Exits
+pub mod Totals
 pub mod Answers
 pub mod Jobs
 pub mod Headline

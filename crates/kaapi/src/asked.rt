@@ -1,6 +1,9 @@
 // What is asked for a job.
 ghost use Rattle.std.specs.Prelude.{◌≤◌};
+ghost use Rattle.kt_gen.specs.Jobs.{IsSize};
 ghost use Rattle.kt_law.specs.declared.limits.TheConstants.{WORKERS};
+
+use kt_text::Kind;
 
 /// How a run by events is chosen: with this many workers, by this number.
 #[derive(Clone, Copy)]
@@ -26,4 +29,13 @@ pub enum Asked {
     Check,
     /// Its run.
     Run(Way),
+}
+
+/// A generated job, which no source gives: its kind, its size, and the number from which its numbers are drawn.
+#[derive(Clone, Copy)]
+pub struct Generated {
+    pub kind: Kind,
+    pub size: u32,
+    pub number: u64,
+    ghost sized: { IsSize kind size },
 }

@@ -33,7 +33,7 @@ pub fn reply_by_workers<R: Threads + Wait + Sync, G: Gate + Sync>(
     requires some { 1 ≤ workers }
     requires few { workers ≤ WORKERS }
     ensures answers { IfOk result (λ x. AnswersThreads job.now x.0) }
-    ensures recorded { IfOk result (λ x. Recorded job.now workers x.0.exit x.1) }
+    ensures recorded { IfOk result (λ x. Recorded (Opened job.now) workers x.0.exit x.1) }
 {
     one_job();
     job_is_read();
@@ -63,7 +63,7 @@ fn run<R: Threads + Wait + Sync, G: Gate + Sync>(
     requires some { 1 ≤ workers }
     requires few { workers ≤ WORKERS }
     ensures answers { IfOk result (λ x. answered_by x.0 ≡ answered_run program.now.families (outcome_of program.now input.now).outcome) }
-    ensures recorded { (job : List ℕ) → Opened job program.now input.now → IfOk result (λ x. Recorded job workers x.0.exit x.1) }
+    ensures recorded { (job : List ℕ) → Opened job program.now input.now → IfOk result (λ x. Recorded (Opened job) workers x.0.exit x.1) }
 {
     let (ran, witness) = run_all(rt, alloc, program, input, workers, gate)?;
     let reply = reply_to_outcome(alloc, program, ran.outcome)?;

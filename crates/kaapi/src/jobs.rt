@@ -153,7 +153,8 @@ fn outcome(alloc: Global, way: Way, program: &Program, input: &[u64]) -> Result<
     }
 }
 
-fn reply_with(alloc: Global, exit: Exit, line: &Line) -> Result<Reply, NoMemory>
+/// The reply of one line.
+pub fn reply_with(alloc: Global, exit: Exit, line: &Line) -> Result<Reply, NoMemory>
     ensures { IfOk result (λ reply. reply ≡ told exit line.now) }
 {
     let text = line_bytes(alloc, line)?;

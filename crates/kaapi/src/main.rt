@@ -1,8 +1,10 @@
-//! Answers a job on standard input: `kaapi check`, `kaapi seq`, `kaapi sim W NUMBER`, `kaapi run W`. Writes a job: `kaapi gen KIND SIZE NUMBER`.
+//! Answers a job on standard input: `kaapi check`, `kaapi seq`, `kaapi sim W NUMBER`, `kaapi run W`. Writes a generated job: `kaapi gen KIND SIZE
+//! NUMBER`. Runs one: `kaapi demo KIND SIZE NUMBER W`.
 #![tactic(auto)]
 
 mod asked;
 mod crews;
+mod demos;
 mod exits;
 mod jobs;
 mod laws;
@@ -12,6 +14,7 @@ mod sources;
 #[cfg(test)]
 mod tests;
 mod top;
+mod totals;
 
 use crate::exits::Exit;
 use crate::top::top;

@@ -3,13 +3,15 @@ ghost use Rattle.std.specs.Prelude.{◌≡◌, ◌≤◌};
 ghost use Rattle.kt_io.specs.Ending.{Said, Sends, SendsOrLacks};
 ghost use Rattle.kt_io.specs.Over.{over};
 ghost use Rattle.kt_gen.specs.Jobs.{IsSize};
-ghost use Rattle.kaapi.specs.Answers.{faults, generated, not_built, told};
+ghost use Rattle.kaapi.specs.Answers.{faults, generated, told};
+ghost use Rattle.kaapi.specs.Jobs.{kept};
 
 use crate::exits::Exit;
 use crate::replies::Reply;
 use kt_gen::job_bytes;
 use kt_io::{Sink, write_all};
 use kt_law::NoMemory;
+use kt_pool::Record;
 use kt_print::{Line, line_bytes};
 use kt_text::Kind;
 use std::alloc::Global;
@@ -43,17 +45,6 @@ pub fn tell<K: Sink>(alloc: Global, exit: Exit, line: &Line, sink: &mut K) -> Ex
     }
 }
 
-/// Writes that workers do not run what is asked for.
-pub fn tell_not_built<K: Sink>(alloc: Global, sink: &mut K) -> Exit
-    ensures sent { SendsOrLacks faults (λ (reply : Said Exit). reply ≡ not_built) (over K.written K.faults sink.old sink.new) result }
-    ensures later { K.faults sink.old ≤ K.faults sink.new }
-{
-    match Reply::not_built(alloc) {
-        Ok(reply) => send(sink, reply.exit(), reply.text()),
-        Err(NoMemory) => Exit::NoMemory,
-    }
-}
-
 /// Writes the answer, and says how the call ends.
 pub fn send<K: Sink>(sink: &mut K, exit: Exit, text: &[u8]) -> Exit
     ensures sent { Sends faults (record { exit = exit; text = text.now }) (over K.written K.faults sink.old sink.new) result }
@@ -63,4 +54,25 @@ pub fn send<K: Sink>(sink: &mut K, exit: Exit, text: &[u8]) -> Exit
         Ok(()) => exit,
         Err(_) => Exit::WriteFault,
     }
+}
+
+/// Writes the answer to a run, and hands back its record where the whole answer was written.
+pub fn send_run<K: Sink>(
+    sink: &mut K,
+    reply: &Reply,
+    witness: Option<Record>,
+) -> (Exit, Option<Record>)
+    ensures sent { Sends faults reply.now (over K.written K.faults sink.old sink.new) result.0 }
+    ensures kept { result.1 ≡ kept result.0 witness }
+    ensures later { K.faults sink.old ≤ K.faults sink.new }
+{
+    let exit = send(sink, reply.exit(), reply.text());
+    (exit, kept(exit, witness))
+}
+
+// The record of a run, where its answer was written.
+fn kept(exit: Exit, witness: Option<Record>) -> Option<Record>
+    ensures { result ≡ kept exit witness }
+{
+    if exit.ends_run() { witness } else { None }
 }

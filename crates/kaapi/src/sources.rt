@@ -4,15 +4,15 @@ ghost use Rattle.kt_io.specs.Ending.{EndsWith, ForJob, SendsOrLacks};
 ghost use Rattle.kt_io.specs.Over.{over};
 ghost use Rattle.kt_io.specs.Streams.{Tells};
 ghost use Rattle.kt_law.specs.declared.limits.TheConstants.{WORKERS};
+ghost use Rattle.kt_open.specs.Answers.{Opened};
 ghost use Rattle.kaapi.specs.Answers.{AnswersAsked, AnswersJob, AnswersNone, AnswersThreads, faults};
 ghost use Rattle.kaapi.specs.Headline.{Recorded};
-ghost use Rattle.kaapi.specs.Jobs.{kept};
 
 use crate::asked::Asked;
 use crate::crews::reply_by_workers;
 use crate::exits::Exit;
 use crate::jobs::reply_to;
-use crate::sending::{send, tell};
+use crate::sending::{send, send_run, tell};
 use kt_io::{ReadError, Sink, Source, read_all};
 use kt_law::{JOB, NoMemory};
 use kt_pool::Record;
@@ -52,7 +52,7 @@ pub fn run_source<R: Threads + Wait + Sync, S: Source, K: Sink, G: Gate + Sync>(
     requires some { 1 ≤ workers }
     requires few { workers ≤ WORKERS }
     ensures answers { ForJob (S.left source.old) (λ job. EndsWith faults (AnswersJob AnswersThreads job)
-        (over S.left S.faults source.old source.new) (over K.written K.faults sink.old sink.new) result.0 × Recorded job workers result.0 result.1) }
+        (over S.left S.faults source.old source.new) (over K.written K.faults sink.old sink.new) result.0 × Recorded (Opened job) workers result.0 result.1) }
     ensures source_later { S.faults source.old ≤ S.faults source.new }
     ensures sink_later { K.faults sink.old ≤ K.faults sink.new }
 {
@@ -107,21 +107,11 @@ fn run_job<R: Threads + Wait + Sync, K: Sink, G: Gate + Sync>(
     requires some { 1 ≤ workers }
     requires few { workers ≤ WORKERS }
     ensures sent { SendsOrLacks faults (AnswersThreads job.now) (over K.written K.faults sink.old sink.new) result.0 }
-    ensures recorded { Recorded job.now workers result.0 result.1 }
+    ensures recorded { Recorded (Opened job.now) workers result.0 result.1 }
     ensures later { K.faults sink.old ≤ K.faults sink.new }
 {
     match reply_by_workers(rt, alloc, workers, job, gate) {
-        Ok((reply, witness)) => {
-            let exit = send(sink, reply.exit(), reply.text());
-            (exit, kept(exit, witness))
-        }
+        Ok((reply, witness)) => send_run(sink, &reply, witness),
         Err(NoMemory) => (Exit::NoMemory, None),
     }
-}
-
-// The record of a run, where its answer was written.
-fn kept(exit: Exit, witness: Option<Record>) -> Option<Record>
-    ensures { result ≡ kept exit witness }
-{
-    if exit.ends_run() { witness } else { None }
 }

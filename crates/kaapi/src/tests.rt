@@ -9,6 +9,7 @@ use std::test::Fail;
 
 mod crews;
 mod cut;
+mod demos;
 mod loops;
 mod streams;
 

@@ -6,9 +6,10 @@ ghost use Rattle.kt_text.specs.Words.{command_of, texts_of};
 ghost use Rattle.kaapi.specs.Answers.{PlainAnswers, asks_job, faults, plain};
 ghost use Rattle.kaapi.specs.Headline.{Headline};
 
-use crate::asked::{Asked, Choice, Way};
+use crate::asked::{Asked, Choice, Generated, Way};
+use crate::demos::run_generated;
 use crate::exits::Exit;
-use crate::sending::{send_generated, tell, tell_not_built};
+use crate::sending::{send_generated, tell};
 use crate::sources::{answer_source, run_source};
 use kt_io::{Sink, Source};
 use kt_pool::Record;
@@ -42,7 +43,10 @@ pub fn top<R: Threads + Wait + Sync, S: Source, K: Sink, G: Gate + Sync>(
     loads_find_last_written();
     match read_words(words) {
         Ok(Command::Run(workers)) => run_source(rt, alloc, workers, source, sink, gate),
-        Ok(Command::Demo(..)) => (tell_not_built(alloc, sink), None),
+        Ok(Command::Demo(kind, size, number, workers)) => {
+            let job = Generated { kind, size, number };
+            run_generated(rt, alloc, workers, job, sink, gate)
+        }
         // Each form by itself, since in a joint arm nothing is known of the form.
         Ok(Command::Check) => (top_plain(alloc, words, source, sink), None),
         Ok(Command::Seq) => (top_plain(alloc, words, source, sink), None),

@@ -15,8 +15,8 @@ use std::sync::atomic::{AtomicU64, Ordering};
 use std::test::Fail;
 use std::thread::Threads;
 
-// Ends as it should, and has a record just where a run came to its end.
-fn ends<R: Abort + Threads + Wait + Sync, G: Gate + Sync>(
+/// Ends as it should, and has a record just where a run came to its end.
+pub fn ends<R: Abort + Threads + Wait + Sync, G: Gate + Sync>(
     rt: &R,
     alloc: Global,
     case: &Case,
@@ -33,7 +33,8 @@ fn ends<R: Abort + Threads + Wait + Sync, G: Gate + Sync>(
         case.words,
         case.job
     );
-    let has_run = case.words.starts_with("run") && exit.ends_run();
+    let asks_run = case.words.starts_with("run") || case.words.starts_with("demo");
+    let has_run = asks_run && exit.ends_run();
     assert!(rt; record.is_some() == has_run, "{} {}", case.words, case.job);
     Ok(())
 }
@@ -133,8 +134,6 @@ fn words_by_the_whole_call(rt: HostRuntime) -> Result<(), Fail> {
         answers("seq 1", "", Exit::Usage, "usage\n"),
         answers("sim 1", "", Exit::Usage, "usage\n"),
         answers("gen mul 26 0", "", Exit::Usage, "usage\n"),
-        answers("demo mul 26 0 1", "", Exit::Usage, "usage\n"),
-        answers("demo scan 1 0 2", "", Exit::NotBuilt, "not built\n"),
         answers("run 01", "main {} data", Exit::Done, ""),
         answers("seq", "main {} data", Exit::Done, ""),
         answers("sim 3 7", "main {} data", Exit::Done, ""),

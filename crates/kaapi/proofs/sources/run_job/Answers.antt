@@ -1,10 +1,11 @@
 use Rattle.kt_io.specs.Ending.SendsOrLacks.{sends}
+use Rattle.kt_open.specs.Answers.{Opened}
 use Rattle.kaapi.proofs.Records.{kept_is_recorded}
 use Rattle.kaapi.proofs.sources.run_job.Goals as goal
 
 pub returns-in-Ok-clause-sent : goal.returns-in-Ok-clause-sent
-returns-in-Ok-clause-sent g c = sends _ c.in-Ok.ensures.answers (rw (c.exit.ensures, c.text.ensures) at c.send-exit.ensures.sent)
+returns-in-Ok-clause-sent g c = sends _ c.in-Ok.ensures.answers c.send_run.ensures.sent
 
 pub returns-in-Ok-clause-recorded : goal.returns-in-Ok-clause-recorded
 returns-in-Ok-clause-recorded g c =
-    rw c.kept.ensures (kept_is_recorded c.args.job.now c.args.workers c.in-Ok.reply _ c.send-exit.result c.in-Ok.witness (rw (c.exit.ensures, c.text.ensures) at c.send-exit.ensures.sent) c.in-Ok.ensures.recorded)
+    rw c.send_run.ensures.kept (kept_is_recorded (Opened c.args.job.now) c.args.workers c.in-Ok.reply _ c.send_run.result.0 c.in-Ok.witness c.send_run.ensures.sent c.in-Ok.ensures.recorded)

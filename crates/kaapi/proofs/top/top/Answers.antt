@@ -1,12 +1,12 @@
 use Rattle.std.proofs.Common.{◌≡◌, refl, sym, ap, ◌∙◌, Some, None}
 use Rattle.std.specs.Result.{result_ok}
-use Rattle.kt_io.specs.Ending.{Said}
 use Rattle.kt_text.specs.Words.{texts_of}
 use Rattle.kt_text.specs.declared.commands.Command.TheVariants as C
-use Rattle.kaapi.specs.Answers.{not_built}
-use Rattle.kaapi.proofs.FewWorkers.{few_in_crew}
+use Rattle.kaapi.specs.Answers.{AnswersDemo}
+use Rattle.kaapi.proofs.FewWorkers.{few_in_crew, few_in_demo}
+use Rattle.kaapi.proofs.FitSizes.{fit_demo}
 use Rattle.kaapi.proofs.Endings.{ends, for_any_job, for_job_then, of_command}
-use Rattle.kaapi.proofs.Records.{plain_headline, recorded_for, unrecorded_for}
+use Rattle.kaapi.proofs.Records.{plain_headline, recorded_for}
 use Rattle.kaapi.proofs.top.top.Goals as goal
 
 pub run_source-requires-clause-some : goal.run_source-requires-clause-some
@@ -25,17 +25,34 @@ returns-in-Ok-Run-clause-headline g c =
     for_job_then _ _ _
     (λ job h. record {
       answered = of_command (texts_of c.args.words.now) job _ _ _ (Some (C.Run c.in-Ok-Run.workers)) same h.0;
-      recorded = recorded_for job c.in-Ok-Run.workers c.run_source.result.0 c.run_source.result.1 _ same h.1;
+      recorded = recorded_for job c.run_source.result.0 c.run_source.result.1 (Some (C.Run c.in-Ok-Run.workers)) _ same h.1;
       found = c.loads_find_last_written.ensures;
     }) c.run_source.ensures.answers
+
+pub invariant_of-job : goal.invariant_of-job
+invariant_of-job g c =
+    let same = sym (ap Some c.in-Ok-Demo.field-0-is) ∙ sym (ap result_ok c.in-Ok-Demo.is) ∙ c.read_words.ensures in
+    record { sized = fit_demo (texts_of c.args.words.now) c.in-Ok-Demo.kind c.in-Ok-Demo.size c.in-Ok-Demo.number c.in-Ok-Demo.workers (sym same) }
+
+pub run_generated-requires-clause-some : goal.run_generated-requires-clause-some
+run_generated-requires-clause-some g c =
+    let same = sym (ap Some c.in-Ok-Demo.field-0-is) ∙ sym (ap result_ok c.in-Ok-Demo.is) ∙ c.read_words.ensures in
+    λ places lives. (few_in_demo (texts_of c.args.words.now) c.in-Ok-Demo.kind c.in-Ok-Demo.size c.in-Ok-Demo.number c.in-Ok-Demo.workers (sym same)).0
+
+pub run_generated-requires-clause-few : goal.run_generated-requires-clause-few
+run_generated-requires-clause-few g c =
+    let same = sym (ap Some c.in-Ok-Demo.field-0-is) ∙ sym (ap result_ok c.in-Ok-Demo.is) ∙ c.read_words.ensures in
+    λ places lives. (few_in_demo (texts_of c.args.words.now) c.in-Ok-Demo.kind c.in-Ok-Demo.size c.in-Ok-Demo.number c.in-Ok-Demo.workers (sym same)).1
 
 pub returns-in-Ok-Demo-clause-headline : goal.returns-in-Ok-Demo-clause-headline
 returns-in-Ok-Demo-clause-headline g c =
     let same = sym (ap Some c.in-Ok-Demo.field-0-is) ∙ sym (ap result_ok c.in-Ok-Demo.is) ∙ c.read_words.ensures in
     for_any_job _ _
     (λ job. record {
-      answered = of_command (texts_of c.args.words.now) job _ _ _ _ same (ends (λ (reply : Said _). reply ≡ not_built) _ _ _ _ (λ reply is. is) c.tell_not_built.ensures.sent);
-      recorded = unrecorded_for job c.tell_not_built.result (Some (C.Demo _ _ _ _)) _ same refl;
+      answered = of_command (texts_of c.args.words.now) job _ _ _ _ same
+          (ends (AnswersDemo c.in-Ok-Demo.kind c.in-Ok-Demo.size c.in-Ok-Demo.number) _ _ _ _ (λ reply is. is) c.run_generated.ensures.sent);
+      recorded = recorded_for job c.run_generated.result.0 c.run_generated.result.1
+          (Some (C.Demo c.in-Ok-Demo.kind c.in-Ok-Demo.size c.in-Ok-Demo.number c.in-Ok-Demo.workers)) _ same c.run_generated.ensures.recorded;
       found = c.loads_find_last_written.ensures;
     })
 
