@@ -1,14 +1,10 @@
-//! The operations on elements. Each is the next one of the running body, and its step enters it in the seat's view.
-ghost use Rattle.std.specs.Prelude.{◌≡◌, ◌<◌, ◌∷◌, List, Some};
-ghost use Rattle.kt_law.specs.Acts.{Act, Deed, Fold, Load, Store};
-ghost use Rattle.kt_order.specs.Body.{Do};
-ghost use Rattle.kt_order.specs.Rest.{left};
-ghost use Rattle.kt_prog.specs.Reference.{machine_of};
-ghost use Rattle.kt_prog.specs.Store.{place_of};
-ghost use Rattle.kt_rule.specs.Facts.{task_in};
+//! The operations on elements. Each is the next one of the index that the seat runs, or of the running body where it runs none, and its step enters
+//! it in the seat's view.
+ghost use Rattle.std.specs.Prelude.{◌≡◌, ◌<◌};
+ghost use Rattle.kt_law.specs.Acts.{Fold, Load, Store};
+ghost use Rattle.kt_loops.specs.Operations.{DidOne, DoesOne, IsNextOn};
 ghost use Rattle.kt_rule.specs.Steps.{Tells};
-ghost use Rattle.kt_rule.specs.declared.views.Execution.{Execution};
-ghost use Rattle.kt_steps.specs.Told.{DidNext, DoesNext, IsDueOn, IsLiveOf};
+ghost use Rattle.kt_steps.specs.Told.{IsLiveOf};
 
 use atomic_table::Play;
 use kt_law::Op;
@@ -17,7 +13,7 @@ use kt_rule::{RunTable, Seat, View};
 struct Doing;
 
 impl Play<(), View> for Doing {
-    ghost then = { Tells DoesNext };
+    ghost then = { Tells DoesOne };
 }
 
 /// Loads an element: the number that it holds.
@@ -25,9 +21,9 @@ pub fn load(t: &RunTable, s: &mut Seat, element: u32) -> u64
     requires seat { s.old.token.table_id ≡ t.now.table.shared.table_id }
     requires live { IsLiveOf t.now.layout s.old.worker s.old.token.me.0 }
     requires inside { element < t.now.layout.elements }
-    requires next { IsDueOn s.old.token.me.0 element Load }
+    requires next { IsNextOn s.old.token.me.0 element Load }
     ensures seat { (s.new.token.table_id ≡ s.old.token.table_id) × (s.new.token.me.1 ≡ s.old.token.me.1) × (s.new.worker ≡ s.old.worker) × (s.new.word ≡ s.old.word) }
-    ensures loaded { DidNext s.old.token.me.0 result s.new.token.me.0 }
+    ensures loaded { DidOne s.old.token.me.0 result s.new.token.me.0 }
 {
     t.table
         .shared
@@ -39,9 +35,9 @@ pub fn store(t: &RunTable, s: &mut Seat, element: u32, value: u64)
     requires seat { s.old.token.table_id ≡ t.now.table.shared.table_id }
     requires live { IsLiveOf t.now.layout s.old.worker s.old.token.me.0 }
     requires inside { element < t.now.layout.elements }
-    requires next { IsDueOn s.old.token.me.0 element (Store value) }
+    requires next { IsNextOn s.old.token.me.0 element (Store value) }
     ensures seat { (s.new.token.table_id ≡ s.old.token.table_id) × (s.new.token.me.1 ≡ s.old.token.me.1) × (s.new.worker ≡ s.old.worker) × (s.new.word ≡ s.old.word) }
-    ensures stored { DidNext s.old.token.me.0 value s.new.token.me.0 }
+    ensures stored { DidOne s.old.token.me.0 value s.new.token.me.0 }
 {
     t.table
         .shared
@@ -53,9 +49,9 @@ pub fn fold(t: &RunTable, s: &mut Seat, element: u32, op: Op, value: u64)
     requires seat { s.old.token.table_id ≡ t.now.table.shared.table_id }
     requires live { IsLiveOf t.now.layout s.old.worker s.old.token.me.0 }
     requires inside { element < t.now.layout.elements }
-    requires next { IsDueOn s.old.token.me.0 element (Fold op value) }
+    requires next { IsNextOn s.old.token.me.0 element (Fold op value) }
     ensures seat { (s.new.token.table_id ≡ s.old.token.table_id) × (s.new.token.me.1 ≡ s.old.token.me.1) × (s.new.worker ≡ s.old.worker) × (s.new.word ≡ s.old.word) }
-    ensures folded { (found : _) × DidNext s.old.token.me.0 found s.new.token.me.0 }
+    ensures folded { (found : _) × DidOne s.old.token.me.0 found s.new.token.me.0 }
 {
     let at = t.layout.element(element);
     match op {

@@ -109,13 +109,13 @@ module _ (j : Setup) (lies : Lies) (s : State Slots View) (f : Facts j lies s) (
     abbrev q : Path
     q = e.spot.path
 
-    abbrev t : Lie
+    abbrev pub t : Lie
     t = ((f.fits id v at).running e (head_in j lies s f id v at live e rest runs plain)).0
 
     pub t_is : lies q ≡ some t
     t_is = head_is j lies s f id v at live e rest runs plain
 
-    agrees : Agrees j e t
+    pub agrees : Agrees j e t
     agrees = head_agrees j lies s f id v at live e rest runs plain
 
     pub no_indexes : t.indexes ≡ []
@@ -138,7 +138,7 @@ module _ (j : Setup) (lies : Lies) (s : State Slots View) (f : Facts j lies s) (
     -- THE FIRST POSITION, in its record
 
     module _ (first : ℕ) (drawn : v.loops.pending ≡ share_from e.spot first ∷ []) where
-      abbrev u1 : Lie
+      abbrev pub u1 : Lie
       u1 = record t { first = first }
 
       abbrev word1 : ℕ

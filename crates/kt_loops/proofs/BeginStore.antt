@@ -38,7 +38,7 @@ use Rattle.kt_steps.proofs.LoopSeats.{at_hand}
 use Rattle.kt_steps.proofs.Steps.{head_in, head_agrees, head_runs, head_task, head_alone, owns_same, rest_keeps, halted_keeps, under_way_else}
 use Rattle.kt_pieces.specs.Changes.{at_worker, untaken_index}
 use Rattle.kt_pieces.proofs.Begins.{begun_looped}
-use Rattle.kt_pieces.proofs.LoopCoreBegins.{HasBegun, begins, begins_forks, nothing_forked}
+use Rattle.kt_pieces.proofs.LoopCoreBegins.{HasBegun, LoopBegun, begins, begins_forks, nothing_forked}
 use Rattle.kt_pieces.proofs.LoopCoreZeroed.{loop_bare}
 use Rattle.kt_loops.specs.Hands.{share_from, began, begins_now}
 use Rattle.kt_loops.proofs.TurningFacts.{loop_turned}
@@ -64,34 +64,34 @@ module _ (j : Setup) (lies : Lies) (s : State Slots View) (f : Facts j lies s) (
   abbrev q : Path
   q = e.spot.path
 
-  abbrev t : Lie
+  abbrev pub t : Lie
   t = ((f.fits id v at).running e (head_in j lies s f id v at live e rest runs plain)).0
 
-  there_is : lies q ≡ some t
+  pub there_is : lies q ≡ some t
   there_is = t_is j lies s f id v at live e rest runs plain
 
-  agrees : Agrees j e t
+  pub agrees : Agrees j e t
   agrees = head_agrees j lies s f id v at live e rest runs plain
 
   none_yet : t.indexes ≡ []
   none_yet = no_indexes j lies s f id v at live e rest runs plain
 
-  abbrev worker : ℕ
+  abbrev pub worker : ℕ
   worker = (head_runs j lies s f id v at live e rest runs plain).0
 
-  stage_is : t.stage ≡ Runs worker
+  pub stage_is : t.stage ≡ Runs worker
   stage_is = (head_runs j lies s f id v at live e rest runs plain).1
 
   bare : (i : ℕ) → lies (child q i) ≡ none
   bare = loop_bare j f.laws lies (elements l s.words) f.core q t there_is (ap (λ (b : Berth). is_loop_at j.program b.call.task) agrees.berth ∙ loop)
 
-  room : HasRoom levels q
+  pub room : HasRoom levels q
   room = room_below j lies s f q t there_is
 
-  abbrev long : ℕ
+  abbrev pub long : ℕ
   long = t.berth.call.length
 
-  abbrev u : Lie
+  abbrev pub u : Lie
   u = record t {
     stage = Loops worker;
     indexes = replicate long untaken_index;
@@ -99,7 +99,7 @@ module _ (j : Setup) (lies : Lies) (s : State Slots View) (f : Facts j lies s) (
     count = t.count + suc long;
   }
 
-  abbrev lies' : Lies
+  abbrev pub lies' : Lies
   lies' = put lies q (some u)
 
   abbrev w : View
@@ -122,10 +122,14 @@ module _ (j : Setup) (lies : Lies) (s : State Slots View) (f : Facts j lies s) (
   next_of_task = ap (left (machine_of j.program)) (head_task j lies s f id v at live e rest runs plain) ∙ (ahead
       ∙ ap (λ (b : Berth). forks_then (machine_of j.program) (index_calls (map suc q) b.call 0 b.call.length) None) (sym agrees.berth))
 
-  core_now : Cored j lies' (elements l s.words)
-  core_now = (begins j f.laws (elements l s.words) q room lies f.core t there_is bare (ap phase_of stage_is) none_yet next_of_task u has_begun).core
+  -- it forks its indexes one after another, and its body ends
+  pub core_goes : LoopBegun j f.laws (elements l s.words) q room (index_calls (map suc q) t.berth.call 0 long) lies lies'
+  core_goes = begins j f.laws (elements l s.words) q room lies f.core t there_is bare (ap phase_of stage_is) none_yet next_of_task u has_begun
 
-  same_elements : elements l ws' ≡ elements l s.words
+  core_now : Cored j lies' (elements l s.words)
+  core_now = core_goes.core
+
+  pub same_elements : elements l ws' ≡ elements l s.words
   same_elements = shelf.elements_else l s.words (worker_word id interval) (packed_pair own) few tt
 
   -- the entry says so

@@ -1,5 +1,5 @@
 -- Steps on intervals: a seat finds its own empty, fills it with a piece and takes from it; it sees a victim's, and splits it. Each keeps the facts.
-use Rattle.std.proofs.Common.{◌≡◌, ℕ, suc, ◌+◌, ◌-◌, ◌*◌, ◌<◌, ◌≤◌, true, List, set, sym, refl, ap, ◌∙◌, subst, arith, Some}
+use Rattle.std.proofs.Common.{◌≡◌, ℕ, suc, ◌+◌, ◌-◌, ◌*◌, ◌<◌, ◌≤◌, true, List, set, inl, inr, sym, refl, ap, ◌∙◌, subst, arith, Some}
 use mathlib.Core.Option.{some}
 use lib.ListN.{get_elem?}
 use Rattle.atomic_table.specs.Table.{State}
@@ -22,10 +22,11 @@ use Rattle.kt_rule.specs.Paths.{put}
 use Rattle.kt_rule.specs.Lists.{In}
 use Rattle.kt_rule.specs.Lies.{Lie, Lies, Cored}
 use Rattle.kt_rule.specs.Records.{layout_of, word_at, elements, positions_at}
-use Rattle.kt_rule.specs.LoopWords.{LoopWords, Hand, pair_in, loop_words, hand_of, hands_of}
-use Rattle.kt_rule.specs.LoopFacts.{IsSeen, Handles, Looped}
+use Rattle.kt_rule.specs.LoopWords.{LoopWords, Hand, between, pair_in, loop_words, hand_of, hands_of}
+use Rattle.kt_rule.specs.LoopFacts.{in_pair, in_shares, in_hand, IsSeen, Handles, Looped}
 use Rattle.kt_rule.specs.Rule.{Slots, Facts}
 use Rattle.kt_rule.proofs.Shelf as shelf
+use Rattle.kt_rule.proofs.Sums.{weigh_one}
 use Rattle.kt_rule.proofs.Cores as cores
 use Rattle.kt_rule.proofs.LoopsStay.{own_there}
 use Rattle.kt_steps.proofs.Asides.{seat_in}
@@ -33,20 +34,27 @@ use Rattle.kt_steps.proofs.LoopSeats.{at_hand}
 use Rattle.kt_steps.proofs.Steps.{fits_at}
 use Rattle.kt_steps.proofs.Telling.{the_some}
 use Rattle.kt_pieces.specs.Changes.{at_worker, run_indexes, cut_all}
-use Rattle.kt_order.specs.Books.{take}
+use Rattle.kt_order.specs.Books.{below, take}
 use Rattle.kt_pieces.proofs.Indexes.{run_long}
 use Rattle.kt_pieces.proofs.Stores.{piece_taken}
 use Rattle.kt_pieces.proofs.Chunks.{chunk_taken}
 use Rattle.kt_pieces.proofs.Splits.{split_given, cut_gives}
-use Rattle.kt_pieces.proofs.Loads.{found_empty, found_interval, found_home, lost_sight}
+use Rattle.kt_pieces.proofs.Changed.{one_most}
+use Rattle.kt_pieces.proofs.Counted.{less_or}
+use Rattle.kt_pieces.proofs.Loads.{share_most, found_empty, found_interval, found_home, lost_sight}
 use Rattle.kt_pieces.proofs.LoopCoreTakes.{takes}
-use Rattle.kt_loops.specs.Hands.{holds_piece, finds_empty, takes_chunk, sights, sights_home, forgets, takes_pieces}
-use Rattle.kt_loops.specs.Told.{IsPairWord, IsOwnLoop, IsLoopAt}
+use Rattle.kt_loops.specs.Hands.{holds_piece, finds_empty, takes_chunk, finds_interval, sights, sights_home, forgets, takes_pieces}
+use Rattle.kt_loops.specs.Told.{IsPairWord, IsOwnLoop, IsLoopAt, AreNew}
+use Rattle.kt_loops.proofs.Finding.{found_learned}
 use Rattle.kt_loops.proofs.TurningFacts.{book_turned}
 use Rattle.kt_loops.proofs.TurningHands.{interval_loops, hands_stored, hands_learned}
 use Rattle.kt_loops.proofs.TurningWords.{hands_moved, interval_set, pair_there, turn_at}
 use Rattle.kt_loops.proofs.BeginTelling.{positions_most}
 use Rattle.kt_loops.proofs.BegunLoops as begun
+
+-- a position of an interval and of a piece in hand stands in two places
+twice : (i g w own p s t r drawn x : ℕ) → i + (g + w) ≡ below drawn x → own ≤ i → own ≡ 1 → p + (s + (t + r)) ≤ w → 1 ≤ s → ⊥
+twice i g w own p s t r drawn x all own_in own_is in_hand_is one = omega (arith, all, own_in, own_is, in_hand_is, one)
 
 module _ (j : Setup) (lies : Lies) (s : State Slots View) (f : Facts j lies s) (id : ℕ) (v : View) (at : get_elem? s.views id ≡ some v)
     (live : 0 < v.parts) where
@@ -237,13 +245,20 @@ module _ (j : Setup) (lies : Lies) (s : State Slots View) (f : Facts j lies s) (
   forgets_it = hands_learned j lies s f id v at live (forgets v).loops refl
       (looped_at lies s.words (forgets v) ws refl (lost_sight j.workers lies ws hands f.looped id (hand_of v) hand_there))
 
+  -- it was too short
+  pub passes_it : (k word : ℕ)
+      → Facts j lies record { words = s.words; homes = s.homes; views = set s.views id (forgets (finds_interval v k word)) }
+  passes_it k word = found_learned j lies s f id v at live (finds_interval v k word).desk.found (forgets v).loops refl
+      (looped_at lies s.words (forgets (finds_interval v k word)) ws refl (lost_sight j.workers lies ws hands f.looped id (hand_of v) hand_there))
+
   pub sights_it : (k : ℕ) → k < j.workers → (ws.interval k).low < (ws.interval k).high
       → Facts j lies record {
         words = s.words;
         homes = s.homes;
         views = set s.views id (sights v k (ws.interval k).low (ws.interval k).high);
       }
-  sights_it k less long = hands_learned j lies s f id v at live (sights v k (ws.interval k).low (ws.interval k).high).loops refl
+  sights_it k less long = found_learned j lies s f id v at live (sights v k (ws.interval k).low (ws.interval k).high).desk.found
+      (sights v k (ws.interval k).low (ws.interval k).high).loops refl
       (looped_at lies s.words (sights v k (ws.interval k).low (ws.interval k).high) ws refl
       (found_interval j.workers lies ws hands f.looped id (hand_of v) hand_there k less long))
 
@@ -312,6 +327,23 @@ module _ (j : Setup) (lies : Lies) (s : State Slots View) (f : Facts j lies s) (
         inside = λ z told. subst (λ (z : Setup). (y.berth.at < RECORDS * z.workers) × (z.workers ≤ 8))
             (the_some (sym ((f.fits id v at).setup live) ∙ told)) (f.words.inside q y y_is, f.crew);
       }
+
+      -- a position stands in one place at most
+      not_twice : (x : Share) → In x v.loops.pieces → o.low ≤ x.low → x.low < o.high → ⊥
+      not_twice x i from to =
+          let long = (own_handles.pieces x i).some_left in
+          let there_is : between o.low o.high x.low ≡ 1 = omega (arith, from, to) in
+          let here_is : between x.low x.high x.low ≡ 1 = omega (arith, long) in
+          let own = ap (λ (z : Pair). in_pair z x.low) own_pair ∙ there_is in
+          twice _ _ _ _ _ _ _ _ _ _ (f.looped.positions x.low) (one_most j.workers (λ n. in_pair (ws.interval n) x.low) k less) own
+          (weigh_one (λ (y : Hand). in_hand x.low y) hands id (hand_of v) hand_there)
+          (subst (λ (n : ℕ). n ≤ in_shares x.low v.loops.pieces) here_is (share_most x.low v.loops.pieces x i))
+
+      pub are_new : AreNew v o.low o.high
+      are_new x i = elim (less_or x.low o.low) [
+        | inl before ↦ inl before.0
+        | inr from ↦ (elim (less_or x.low o.high) [ inl to ↦ absurd (not_twice x i from.0 to.0) | inr after ↦ inr after.0 ])
+      ]
 
       gives : (o.low < kept.high) × (kept.high < o.high) × Fill kept.high dealt o.high
       gives = cut_gives o.low o.high parts kept dealt two some_parts cut

@@ -27,8 +27,8 @@ use Rattle.kt_rule.specs.Steps.{Tells}
 use Rattle.kt_steps.proofs.Steps.{set_word, same_state, inside, holds_so, holds_at, won, lost, told_won, told_lost}
 use Rattle.kt_steps.proofs.Telling.{the_some}
 use Rattle.kt_pieces.specs.Changes.{without_piece}
-use Rattle.kt_loops.specs.Hands.{holds_piece, finds_empty, takes_chunk, sights, sights_home, forgets, takes_pieces}
-use Rattle.kt_loops.specs.Told.{IsPairWord, IsOwnLoop, IsLoopAt, FindsInterval, HoldsAt, TakesChunk, Sights, SightsHome, Splits}
+use Rattle.kt_loops.specs.Hands.{holds_piece, finds_empty, takes_chunk, finds_interval, sights, sights_home, forgets, takes_pieces}
+use Rattle.kt_loops.specs.Told.{IsPairWord, IsOwnLoop, IsLoopAt, FindsInterval, HoldsAt, TakesChunk, Sights, SightsHome, AreNew, Splits}
 use Rattle.kt_loops.proofs.TurningWords.{pair_back, pair_fits, pair_same}
 use Rattle.kt_loops.proofs.IntervalSteps as steps
 
@@ -194,11 +194,20 @@ module _ (opening : List ℕ) (slots id : ℕ) (me : Me Slots View) (j : Setup) 
       ∙ ap pair_in (sym (word_is s k interval i i_is)) in
       elim (less_or high (low + 2)) [
         | inl short ↦ (
-          forgets me.0,
+          forgets (finds_interval me.0 k n),
           keeps,
           tt,
-          load_holds opening j lies s i id me.1 (forgets me.0) (steps.forgets_it j lies s f id me.0 at live),
-          ((low, high, says_pair n word, inr (short, refl)), refl),
+          load_holds opening j lies s i id me.1 (forgets (finds_interval me.0 k n)) (steps.passes_it j lies s f id me.0 at live k n),
+          (
+            (
+              low,
+              high,
+              says_pair n word,
+              any_setup (Saw n low high (forgets (finds_interval me.0 k n)))
+                  (λ y y_less e. inr (short, ap (λ (z : ℕ). forgets (finds_interval me.0 z n)) (one_victim y y_less e))),
+            ),
+            refl,
+          ),
         )
         | inr long ↦ (
           sights me.0 k low high,
@@ -212,17 +221,21 @@ module _ (opening : List ℕ) (slots id : ℕ) (me : Me Slots View) (j : Setup) 
               low,
               high,
               says_pair n word,
-              inl (
-                long,
-                any_setup (λ z. (y : ℕ) → y < z.workers → i ≡ place (layout_of z) (worker_word y interval)
-                    → sights me.0 k low high ≡ sights me.0 y low high)
-                    (λ y y_less e. ap (λ (z : ℕ). sights me.0 z low high) (worker_one (layout_of j) k y interval less y_less (sym i_is ∙ e))),
-              ),
+              any_setup (Saw n low high (sights me.0 k low high))
+                  (λ y y_less e. inl (long, ap (λ (z : ℕ). sights me.0 z low high) (one_victim y y_less e))),
             ),
             refl,
           ),
         )
       ]
+    where
+      -- whichever worker's interval stands there, it is this worker's
+      one_victim : (y : ℕ) → y < j.workers → i ≡ place_of y interval → k ≡ y
+      one_victim y y_less e = worker_one (layout_of j) k y interval less y_less (sym i_is ∙ e)
+
+      Saw : ℕ → ℕ → ℕ → View → Setup → Type 0
+      Saw n low high w z = (y : ℕ) → y < z.workers → i ≡ place (layout_of z) (worker_word y interval)
+          → ((low + 2 ≤ high) × (w ≡ sights me.0 y low high)) ⊎ ((high < low + 2) × (w ≡ forgets (finds_interval me.0 y n)))
 
   -- and its home word
   pub home_told : (o : Sight) (i : ℕ) → me.0.loops.sight ≡ Some o → i ≡ place_of o.victim home
@@ -243,8 +256,9 @@ module _ (opening : List ℕ) (slots id : ℕ) (me : Me Slots View) (j : Setup) 
 
   -- IT IS SPLIT
 
-  abbrev Given : View → ℕ → List Pair → Type 0
-  Given w word dealt = (m : Spot) × (suc m.berth.at ≡ word) × IsLoopAt me.0 m m.berth.at × (w ≡ takes_pieces me.0 m dealt)
+  abbrev Given : View → Sight → ℕ → List Pair → Type 0
+  Given w o word dealt = (m : Spot) × (suc m.berth.at ≡ word) × IsLoopAt me.0 m m.berth.at × AreNew me.0 o.low o.high
+      × (w ≡ takes_pieces me.0 m dealt)
 
   pub split_told : (o : Sight) (home_word parts : ℕ) (kept : Pair) (dealt : List Pair) (i old new : ℕ) → me.0.loops.sight ≡ Some o
       → o.home ≡ Some home_word → 1 ≤ parts → o.low + 2 ≤ o.high → IsCut (record { low = o.low; high = o.high }) parts kept dealt
@@ -258,6 +272,7 @@ module _ (opening : List ℕ) (slots id : ℕ) (me : Me Slots View) (j : Setup) 
       (λ hit. let there_is : IsPairWord (word_at (layout_of j) s.words (worker_word o.victim interval)) o.low o.high = (old_is.0, sym n_is ∙ (hit ∙ old_is.1)) in
       let m : Spot = steps.victims_loop j lies s f id me.0 at live o saw home_word home_seen parts kept dealt some_parts two cut there_is new_is.0 in
       let named = steps.named_so j lies s f id me.0 at live o saw home_word home_seen parts kept dealt some_parts two cut there_is new_is.0 in
+      let new_ones = steps.are_new j lies s f id me.0 at live o saw home_word home_seen parts kept dealt some_parts two cut there_is new_is.0 in
       let lies_in = steps.loop_inside j lies s f id me.0 at live o saw home_word home_seen parts kept dealt some_parts two cut there_is new_is.0 in
       let w : View = takes_pieces me.0 m dealt in (
         w,
@@ -267,8 +282,8 @@ module _ (opening : List ℕ) (slots id : ℕ) (me : Me Slots View) (j : Setup) 
             (holds_at opening j _ s id (place_of o.victim interval) i (packed_pair kept) new w w (sym i_is) (sym new_is.1) refl
             (steps.splits_it j lies s f id me.0 at live o saw home_word home_seen parts kept dealt some_parts two cut there_is new_is.0)),
         (
-          (λ y saw_y z seen_z left pieces cut_y first_is second_is. told_won opening s i old new id me.1 (Given w z pieces) (w ≡ forgets me.0) hit
-              (told_so w y saw_y z seen_z left pieces cut_y (m, named, lies_in, refl))),
+          (λ y saw_y z seen_z left pieces cut_y first_is second_is. told_won opening s i old new id me.1 (Given w y z pieces) (w ≡ forgets me.0) hit
+              (told_so w y saw_y z seen_z left pieces cut_y (m, named, lies_in, new_ones, refl))),
           refl,
         ),
       ))
@@ -278,7 +293,7 @@ module _ (opening : List ℕ) (slots id : ℕ) (me : Me Slots View) (j : Setup) 
         tt,
         lost opening s i old new id me.1 (forgets me.0) miss (holds_so opening _ j lies (steps.forgets_it j lies s f id me.0 at live)),
         (
-          (λ y saw_y z seen_z left pieces cut_y first_is second_is. told_lost opening s i old new id me.1 (Given (forgets me.0) z pieces)
+          (λ y saw_y z seen_z left pieces cut_y first_is second_is. told_lost opening s i old new id me.1 (Given (forgets me.0) y z pieces)
               (forgets me.0 ≡ forgets me.0) miss refl),
           refl,
         ),
@@ -288,11 +303,11 @@ module _ (opening : List ℕ) (slots id : ℕ) (me : Me Slots View) (j : Setup) 
       same_number e = cc
 
       told_so : (w : View) (y : Sight) → me.0.loops.sight ≡ Some y → (z : ℕ) → y.home ≡ Some z → (left : Pair) (pieces : List Pair)
-          → IsCut (record { low = y.low; high = y.high }) parts left pieces → Given w home_word dealt → Given w z pieces
+          → IsCut (record { low = y.low; high = y.high }) parts left pieces → Given w o home_word dealt → Given w y z pieces
       told_so w y saw_y z seen_z left pieces cut_y =
           let same : o ≡ y = the_some (sym saw ∙ saw_y) in
           let number : home_word ≡ z = same_number (sym home_seen ∙ (ap (λ (u : Sight). u.home) same ∙ seen_z)) in
           let cut_o : IsCut (record { low = o.low; high = o.high }) parts left pieces =
           subst (λ (u : Sight). IsCut (record { low = u.low; high = u.high }) parts left pieces) (sym same) cut_y in
           let one = one_cut (record { low = o.low; high = o.high }) parts kept left dealt pieces (omega (arith, two)) some_parts cut cut_o in
-          subst (λ (u : ℕ × List Pair). Given w u.0 u.1) (λ k. (number k, one.1 k))
+          subst (λ (u : Sight × (ℕ × List Pair)). Given w u.0 u.1.0 u.1.1) (λ k. (same k, (number k, one.1 k)))

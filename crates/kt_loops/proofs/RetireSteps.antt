@@ -43,7 +43,7 @@ use Rattle.kt_pieces.proofs.Once.{own_once}
 use Rattle.kt_pieces.proofs.Retires.{enough, retired_looped}
 use Rattle.kt_pieces.proofs.Loads.{found_none_left}
 use Rattle.kt_pieces.proofs.LoopCoreTakes.{SameTask}
-use Rattle.kt_pieces.proofs.LoopCoreRetires.{index_number, ends_by_number, CanEnd, retires}
+use Rattle.kt_pieces.proofs.LoopCoreRetires.{index_number, ends_by_number, CanEnd, Retired, retires}
 use Rattle.kt_loops.specs.Hands.{retires_some, finds_none_left}
 use Rattle.kt_loops.proofs.TurningFacts.{book_turned}
 use Rattle.kt_loops.proofs.TurningHands.{hands_learned}
@@ -206,10 +206,17 @@ module _ (j : Setup) (lies : Lies) (s : State Slots View) (f : Facts j lies s) (
     same_as_task : SameTask t u
     same_as_task = record { berth = refl; phase = refl; answers = refl; count = refl }
 
-    core_now : Cored j lies' (elements l s.words)
-    core_now = (retires j p f.laws (elements l s.words) programs.plain accepted (map index_number done) lies f.core t there_is bare
+    -- each of them ends, and is finished
+    pub core_goes : Retired j p f.laws (elements l s.words) (map index_number done) lies lies'
+    core_goes = retires j p f.laws (elements l s.words) programs.plain accepted (map index_number done) lies f.core t there_is bare
         (no_twice p done theirs once) (all_can (CanEnd j p t t.indexes) done can) u
-        same_as_task (ends_by_number done t.indexes)).core
+        same_as_task (ends_by_number done t.indexes)
+
+    core_now : Cored j lies' (elements l s.words)
+    core_now = core_goes.core
+
+    pub same_elements : elements l ws' ≡ elements l s.words
+    same_elements = shelf.elements_else l s.words (record_word t.berth.at 4) u.unretired (in_table, omega arith) tt
 
     pub retires_lie : Facts j lies' record { words = ws'; homes = s.homes; views = set s.views id w }
     retires_lie = book_turned j lies s p t u ws' id v w.loops f at live (record {
@@ -218,7 +225,7 @@ module _ (j : Setup) (lies : Lies) (s : State Slots View) (f : Facts j lies s) (
       answers = refl;
       count = refl;
       long = end_long done t.indexes;
-      core = subst (Cored j lies') (sym (shelf.elements_else l s.words (record_word t.berth.at 4) u.unretired (in_table, omega arith) tt)) core_now;
+      core = subst (Cored j lies') (sym same_elements) core_now;
       looped = looped_at j lies s f id v at live lies' ws' w (loop_words l s.words) (record_set l s.words t.berth.at 4 u.unretired (in_table, omega arith))
           (retired_looped j.workers lies (loop_words l s.words) (hands_of s.views) f.looped id (hand_of v) (hand_there j lies s f id v at live) p t there_is
           done rest first some_done theirs);

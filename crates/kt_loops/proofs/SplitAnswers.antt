@@ -13,27 +13,30 @@ use Rattle.kt_rule.specs.declared.views.Spot.{Spot}
 use Rattle.kt_rule.specs.declared.views.View.{View}
 use Rattle.kt_rule.specs.Records.{layout_of}
 use Rattle.kt_rule.specs.Rule.{Slots}
-use Rattle.kt_loops.specs.Hands.{sights, sights_home, forgets, takes_pieces}
-use Rattle.kt_loops.specs.Told.{IsLoopAt, Sights, SightsHome, Splits}
+use Rattle.kt_loops.specs.Hands.{finds_interval, sights, sights_home, forgets, takes_pieces}
+use Rattle.kt_loops.specs.Told.{IsLoopAt, AreNew, Sights, SightsHome, Splits}
 use Rattle.kt_pieces.proofs.Splits.{cut_gives}
 use Rattle.kt_loops.proofs.TurningWords.{pair_same}
 
 -- THE LOAD, where the word says this pair
 
-module _ (st : Step Slots) (v w : View) (word : ℕ) (x : Pair) (fits : IsPair x) (says : packed_pair x ≡ word) where
-  pub sights_short : Sights st v word w → size x < 2 → w ≡ forgets v
+module _ (st : Step Slots) (v w : View) (word : ℕ) (x : Pair) (fits : IsPair x) (says : packed_pair x ≡ word) (j : Setup)
+    (told : v.setup ≡ Some j) (victim : ℕ) (less : victim < j.workers) (at : st.word ≡ place (layout_of j) (worker_word victim interval)) where
+  pub sights_short : Sights st v word w → size x < 2 → w ≡ forgets (finds_interval v victim (packed_pair x))
   sights_short h short =
       let p = pair_same (record { low = h.0; high = h.1 }) x h.2.0 fits (sym h.2.1 ∙ sym says) in
       let a = ap (λ (z : Pair). z.low) p in let b = ap (λ (z : Pair). z.high) p in
-      elim h.3 [ inl c ↦ absurd (let long = c.0 in omega (arith, a, b, long, short)) | inr c ↦ c.1 ]
+      elim (h.3 j told victim less at) [
+        | inl c ↦ absurd (let long = c.0 in omega (arith, a, b, long, short))
+        | inr c ↦ c.1 ∙ ap (λ (z : ℕ). forgets (finds_interval v victim z)) (sym says)
+      ]
 
-  pub sights_long : Sights st v word w → 2 ≤ size x → (j : Setup) → v.setup ≡ Some j → (victim : ℕ) → victim < j.workers
-      → st.word ≡ place (layout_of j) (worker_word victim interval) → w ≡ sights v victim x.low x.high
-  sights_long h long j told victim less at =
+  pub sights_long : Sights st v word w → 2 ≤ size x → w ≡ sights v victim x.low x.high
+  sights_long h long =
       let p = pair_same (record { low = h.0; high = h.1 }) x h.2.0 fits (sym h.2.1 ∙ sym says) in
       let a = ap (λ (z : Pair). z.low) p in let b = ap (λ (z : Pair). z.high) p in
-      elim h.3 [
-        | inl c ↦ c.1 j told victim less at ∙ (λ i. sights v victim (a i) (b i))
+      elim (h.3 j told victim less at) [
+        | inl c ↦ c.1 ∙ (λ i. sights v victim (a i) (b i))
         | inr c ↦ absurd (let short = c.0 in omega (arith, a, b, long, short))
       ]
 
@@ -42,10 +45,10 @@ module _ (st : Step Slots) (v w : View) (word : ℕ) (x : Pair) (fits : IsPair x
 module _ (slots : ℕ) (v seen then : View) (at at_home victim word home_word : ℕ) (x : Pair) (fits : IsPair x) (says : packed_pair x ≡ word)
     (two : 2 ≤ size x) (j : Setup) (told : v.setup ≡ Some j) (less : victim < j.workers) (at_is : at ≡ place (layout_of j) (worker_word victim interval)) where
   pub saw_one : Sights (step slots at 0 0 none) v word seen → seen ≡ sights v victim x.low x.high
-  saw_one h = sights_long (step slots at 0 0 none) v seen word x fits says h two j told victim less at_is
+  saw_one h = sights_long (step slots at 0 0 none) v seen word x fits says j told victim less at_is h two
 
   pub saw_two : at_home ≡ place (layout_of j) (worker_word victim home) → Sights (step slots at 0 0 none) v word seen
-      → SightsHome (step slots at_home 0 0 none) seen home_word then → then ≡ sights_home v victim x.low x.high home_word
+      → SightsHome (step slots at_home 0 0 none) seen home_word then → then ≡ sights_home (finds_interval v victim (packed_pair x)) victim x.low x.high home_word
   saw_two home_is h k =
       let one = saw_one h in
       k (record { victim = victim; low = x.low; high = x.high; home = None }) (ap (λ (z : View). z.loops.sight) one) j
@@ -60,15 +63,15 @@ kept_fits x kept parts dealt fits two some_parts cut =
 
 -- THE EXCHANGE
 
-module _ (v seen w : View) (victim word parts : ℕ) (x kept : Pair) (dealt : List Pair) (saw : seen ≡ sights_home v victim x.low x.high word)
-    (two : 2 ≤ size x) where
+module _ (v seen w : View) (victim word parts : ℕ) (x kept : Pair) (dealt : List Pair)
+    (saw : seen ≡ sights_home (finds_interval v victim (packed_pair x)) victim x.low x.high word) (fits : IsPair x) (two : 2 ≤ size x) where
   abbrev pub Given : Type 0
-  Given = (m : Spot) × (suc m.berth.at ≡ word) × IsLoopAt seen m m.berth.at × (w ≡ takes_pieces seen m dealt)
+  Given = (m : Spot) × (suc m.berth.at ≡ word) × IsLoopAt seen m m.berth.at × AreNew seen x.low x.high × (w ≡ takes_pieces seen m dealt)
 
   -- what the exchange tells of this cut
-  pub told_here : (slots at old left n : ℕ) → IsPair x → packed_pair x ≡ old → IsPair kept → left ≡ packed_pair kept → IsCut x parts kept dealt
+  pub told_here : (slots at old left n : ℕ) → packed_pair x ≡ old → IsPair kept → left ≡ packed_pair kept → IsCut x parts kept dealt
       → Splits parts (step slots at old left none) seen n w → MatchBool (n == old) Given (w ≡ forgets seen)
-  told_here slots at old left n fits says small left_is cut h =
+  told_here slots at old left n says small left_is cut h =
       h (record { victim = victim; low = x.low; high = x.high; home = Some word }) (ap (λ (z : View). z.loops.sight) saw) word refl kept dealt cut
       (sym says) (small, left_is)
 
@@ -79,7 +82,8 @@ module _ (v seen w : View) (victim word parts : ℕ) (x kept : Pair) (dealt : Li
       (omega (arith, a), omega (arith, a, less, few))
 
   pub split_got : (at : ℕ) → at ≡ word - 1 → Given → IsCut x parts kept dealt
-      → (m : Spot) × IsLoopAt v m at × ((found left : Pair) × (found.low + 2 ≤ found.high) × IsCut found parts left dealt × (w ≡ takes_pieces v m dealt))
+      → (m : Spot) × IsLoopAt v m at × ((found left : Pair) × IsPair found × (found.low + 2 ≤ found.high) × IsCut found parts left dealt
+      × AreNew v found.low found.high × (w ≡ takes_pieces (finds_interval v victim (packed_pair found)) m dealt))
   split_got at is h cut =
       let same : h.0.berth.at ≡ at = (let a = h.1 in omega (arith, a, is)) in (
         h.0,
@@ -88,9 +92,17 @@ module _ (v seen w : View) (victim word parts : ℕ) (x kept : Pair) (dealt : Li
           inside = λ j told. subst (λ (n : ℕ). (n < RECORDS * j.workers) × (j.workers ≤ 8)) same
               (h.2.inside j (ap (λ (z : View). z.setup) saw ∙ told));
         },
-        (x, kept, omega (arith, two), cut, h.3 ∙ ap (λ (z : View). takes_pieces z h.0 dealt) saw),
+        (
+          x,
+          kept,
+          fits,
+          omega (arith, two),
+          cut,
+          subst (λ (z : View). AreNew z x.low x.high) saw h.3,
+          h.4 ∙ ap (λ (z : View). takes_pieces z h.0 dealt) saw,
+        ),
       )
 
   pub split_moved : (found : ℕ) → found ≢ packed_pair x → w ≡ forgets seen
-      → (w ≡ forgets v) × ((y : Pair) × (y.low + 2 ≤ y.high) × (found ≢ packed_pair (record { low = y.low; high = y.high })))
-  split_moved found other same = (same ∙ ap forgets saw, (x, omega (arith, two), other))
+      → (y : Pair) × IsPair y × (y.low + 2 ≤ y.high) × (found ≢ packed_pair y) × (w ≡ forgets (finds_interval v victim (packed_pair y)))
+  split_moved found other same = (x, fits, omega (arith, two), other, same ∙ ap forgets saw)

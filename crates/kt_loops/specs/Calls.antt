@@ -2,8 +2,9 @@
 use Rattle.std.specs.Prelude.{◌≡◌, ◌≢◌, ℕ, suc, ◌+◌, ◌-◌, ◌*◌, ◌<◌, ◌≤◌, ◌==◌, min, true, false, List, [], ◌∷◌, length, map, MatchBool, Some}
 use Rattle.kt_law.specs.declared.limits.TheConstants.{INDEXES, LENGTH, WORKERS}
 use Rattle.kt_runs.specs.Loops.{CanBegin}
+use Rattle.kt_split.specs.Intervals.{size}
 use Rattle.kt_split.specs.Splits.{IsCut}
-use Rattle.kt_words.specs.Words.{packed_pair}
+use Rattle.kt_words.specs.Words.{packed_pair, IsPair}
 use Rattle.kt_words.specs.declared.pairs.Pair.{Pair}
 use Rattle.kt_rule.specs.declared.views.Setup.{Setup}
 use Rattle.kt_rule.specs.declared.views.Spot.{Spot}
@@ -14,8 +15,8 @@ use Rattle.kt_rule.specs.declared.views.View.{View}
 use Rattle.kt_rule.specs.Lists.{In}
 use Rattle.kt_rule.specs.Steps.{knows_stop}
 use Rattle.kt_rule.specs.Facts.{task_in}
-use Rattle.kt_loops.specs.Hands.{share_from, draws_positions, places_first, homes_at, begins_now, holds_piece, finds_empty, takes_chunk, forgets, takes_pieces, retires_some, finds_none_left}
-use Rattle.kt_loops.specs.Told.{IsOwnLoop, IsLoopAt, AreOver}
+use Rattle.kt_loops.specs.Hands.{share_from, draws_positions, places_first, homes_at, begins_now, holds_piece, finds_empty, takes_chunk, finds_interval, forgets, takes_pieces, retires_some, finds_none_left}
+use Rattle.kt_loops.specs.Told.{IsOwnLoop, IsLoopAt, AreNew, AreOver}
 use Rattle.kt_loops.specs.declared.loops.Begun.{Begun}
 use Rattle.kt_loops.specs.declared.loops.Begun.TheVariants as B
 use Rattle.kt_loops.specs.declared.pieces.Taken.{Taken}
@@ -83,13 +84,16 @@ HasTaken v grain w (T.Got piece) = (high : ℕ) × (piece.low < high) × (piece.
 HasTaken v grain w T.Empty = w ≡ finds_empty v
 HasTaken v grain w (T.Moved word) = (w ≡ v) × ((low high : ℕ) × (low < high) × (word ≢ packed_pair (record { low = low; high = high })))
 
--- an interval of two positions or more is cut, of which thieves have the pieces; it was shorter; or the exchange found another
-abbrev pub HasSplit : View → ℕ → View → Divided → Type 0
-HasSplit v parts w (D.Got at pieces) = (m : Spot) × IsLoopAt v m at × ((found kept : Pair) × (found.low + 2 ≤ found.high)
-    × IsCut found parts kept pieces.items × (w ≡ takes_pieces v m pieces.items))
-HasSplit v parts w (D.Short count) = (count < 2) × (w ≡ forgets v)
-HasSplit v parts w (D.Moved word) = (w ≡ forgets v)
-    × ((found : Pair) × (found.low + 2 ≤ found.high) × (word ≢ packed_pair (record { low = found.low; high = found.high })))
+-- the pair that was found in the victim's interval, which the view holds behind what it found before. Where it has two positions or more
+-- it is cut, and the pieces are in hand, which are none that were in hand; it was shorter; or the exchange found another word
+abbrev pub HasSplit : ℕ → View → ℕ → View → Divided → Type 0
+HasSplit victim v parts w (D.Got at pieces) = (m : Spot) × IsLoopAt v m at × ((found kept : Pair) × IsPair found × (found.low + 2 ≤ found.high)
+    × IsCut found parts kept pieces.items × AreNew v found.low found.high
+    × (w ≡ takes_pieces (finds_interval v victim (packed_pair found)) m pieces.items))
+HasSplit victim v parts w (D.Short count) = (found : Pair) × IsPair found × (count ≡ size found) × (count < 2)
+    × (w ≡ forgets (finds_interval v victim (packed_pair found)))
+HasSplit victim v parts w (D.Moved word) = (found : Pair) × IsPair found × (found.low + 2 ≤ found.high) × (word ≢ packed_pair found)
+    × (w ≡ forgets (finds_interval v victim (packed_pair found)))
 
 -- so many of the indexes in hand, the first ones, are of the loop in this record and over
 pub record MayRetire (v : View) (at count : ℕ) : Type 0 where

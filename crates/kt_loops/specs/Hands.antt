@@ -1,6 +1,7 @@
 -- What a seat knows after a step on a word of loops.
 use Rattle.std.specs.Prelude.{ℕ, suc, ◌+◌, ◌-◌, true, false, List, [], ◌∷◌, ◌++◌, map, None, Some}
 use Rattle.kt_runs.specs.ByPath.{Path}
+use Rattle.kt_words.specs.Words.{packed_pair}
 use Rattle.kt_words.specs.declared.pairs.Pair.{Pair}
 use Rattle.kt_rule.specs.declared.views.Spot.{Spot}
 use Rattle.kt_rule.specs.declared.views.Execution.{Execution}
@@ -56,9 +57,15 @@ takes_chunk v m first low n = record v {
   loops = record v.loops { taken = v.loops.taken ++ chunk_of m first (low - first) n };
 }
 
+-- this word was found in a victim's interval
+abbrev pub finds_interval : View → ℕ → ℕ → View
+finds_interval v victim word = record v {
+  desk = record v.desk { found = v.desk.found ++ record { worker = victim; word = word } ∷ [] };
+}
+
 -- a victim's interval was found, which may be split; and then its home word
 abbrev pub sights : View → ℕ → ℕ → ℕ → View
-sights v victim low high = record v {
+sights v victim low high = record (finds_interval v victim (packed_pair (record { low = low; high = high }))) {
   loops = record v.loops { sight = Some (record { victim = victim; low = low; high = high; home = None }) };
 }
 

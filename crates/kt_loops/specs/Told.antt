@@ -23,7 +23,7 @@ use Rattle.kt_rule.specs.Lists.{In}
 use Rattle.kt_rule.specs.Records.{layout_of}
 use Rattle.kt_rule.specs.Facts.{index_task}
 use Rattle.kt_rule.specs.Rule.{Slots}
-use Rattle.kt_loops.specs.Hands.{draws_positions, places_first, homes_at, begins_now, holds_piece, finds_empty, takes_chunk, sights, sights_home, forgets, takes_pieces, retires_some, finds_none_left}
+use Rattle.kt_loops.specs.Hands.{draws_positions, places_first, homes_at, begins_now, holds_piece, finds_empty, takes_chunk, finds_interval, sights, sights_home, forgets, takes_pieces, retires_some, finds_none_left}
 
 -- a word that is packed from a pair, from the lower number up to the higher
 abbrev pub IsPairWord : ℕ → ℕ → ℕ → Type 0
@@ -75,9 +75,8 @@ TakesChunk st v n w = (low middle high : ℕ) → IsPairWord st.first low high �
 -- a victim's interval; it is of use where it has two positions
 abbrev pub Sights : Step Slots → View → ℕ → View → Type 0
 Sights st v n w = (low high : ℕ) × IsPairWord n low high
-    × (((low + 2 ≤ high) × ((j : Setup) → v.setup ≡ Some j → (victim : ℕ) → victim < j.workers
-    → st.word ≡ place (layout_of j) (worker_word victim interval) → w ≡ sights v victim low high))
-    ⊎ ((high < low + 2) × (w ≡ forgets v)))
+    × ((j : Setup) → v.setup ≡ Some j → (victim : ℕ) → victim < j.workers → st.word ≡ place (layout_of j) (worker_word victim interval)
+    → ((low + 2 ≤ high) × (w ≡ sights v victim low high)) ⊎ ((high < low + 2) × (w ≡ forgets (finds_interval v victim n))))
 
 -- and its home word, which names a record as long as the interval stays
 abbrev pub SightsHome : Step Slots → View → ℕ → View → Type 0
@@ -89,13 +88,17 @@ pub record IsLoopAt (v : View) (m : Spot) (at : ℕ) : Type 0 where
   pub lies : m.berth.at ≡ at
   pub inside : (j : Setup) → v.setup ≡ Some j → (at < RECORDS * j.workers) × (j.workers ≤ 8)
 
+-- no piece in hand begins among these positions
+abbrev pub AreNew : View → ℕ → ℕ → Type 0
+AreNew v low high = (x : Share) → In x v.loops.pieces → (x.low < low) ⊎ (high ≤ x.low)
+
 -- the interval that was seen is cut for so many parts, or another was found
 abbrev pub Splits : ℕ → Step Slots → View → ℕ → View → Type 0
 Splits parts st v n w = (o : Sight) → v.loops.sight ≡ Some o → (word : ℕ) → o.home ≡ Some word → (kept : Pair) (dealt : List Pair)
     → IsCut (record { low = o.low; high = o.high }) parts kept dealt → st.first ≡ packed_pair (record { low = o.low; high = o.high })
     → IsPairWord st.second kept.low kept.high
     → MatchBool (n == st.first)
-    ((m : Spot) × (suc m.berth.at ≡ word) × IsLoopAt v m m.berth.at × (w ≡ takes_pieces v m dealt))
+    ((m : Spot) × (suc m.berth.at ≡ word) × IsLoopAt v m m.berth.at × AreNew v o.low o.high × (w ≡ takes_pieces v m dealt))
     (w ≡ forgets v)
 
 -- INDEXES

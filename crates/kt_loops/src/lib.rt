@@ -14,6 +14,7 @@
 #![tactic(auto)]
 
 mod indexes;
+pub mod laws;
 mod loops;
 mod pieces;
 mod records;

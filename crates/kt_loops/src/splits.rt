@@ -56,7 +56,7 @@ impl<C: Cutting> Play<(), View> for Splitting<C> {
 }
 
 /// Splits the interval of a victim for so many thieves. The home word is loaded between the load of the interval and its exchange: so it
-/// names the record of that interval.
+/// names the record of that interval. The word that was loaded stands behind what the seat found in words of others before.
 pub fn split(t: &RunTable, s: &mut Seat, victim: u32, parts: u32) -> Divided
     requires seat { s.old.token.table_id ≡ t.now.table.shared.table_id }
     requires live { IsLiveOf t.now.layout s.old.worker s.old.token.me.0 }
@@ -64,7 +64,7 @@ pub fn split(t: &RunTable, s: &mut Seat, victim: u32, parts: u32) -> Divided
     requires some { 1 ≤ parts }
     requires few { parts ≤ PARTS }
     ensures seat { (s.new.token.table_id ≡ s.old.token.table_id) × (s.new.token.me.1 ≡ s.old.token.me.1) × (s.new.worker ≡ s.old.worker) × (s.new.word ≡ s.old.word) }
-    ensures split { HasSplit s.old.token.me.0 parts s.new.token.me.0 result }
+    ensures split { HasSplit victim s.old.token.me.0 parts s.new.token.me.0 result }
 {
     let place = t.layout.interval(victim);
     let word = t.table.shared.load::<Sighting>(&mut s.token, place);

@@ -9,6 +9,7 @@ use Rattle.atomic_table.specs.Table.{State, Me, Act, keeps, stepped, step, Allow
 use Rattle.atomic_table.proofs.Lists.{set_here}
 use Rattle.kt_law.specs.declared.stands.Stand.TheVariants as S
 use Rattle.kt_order.specs.Body.{Fork}
+use Rattle.kt_order.specs.Forest.{Phase, Running, Finished}
 use Rattle.kt_order.specs.Machine.{Code}
 use Rattle.kt_order.specs.Rest.{left}
 use Rattle.kt_order.proofs.ByPaths.{at_path}
@@ -30,6 +31,8 @@ use Rattle.kt_rule.specs.Lists.{In}
 use Rattle.kt_rule.specs.Lies.{Lie, Lies, is_gone, core_of}
 use Rattle.kt_rule.specs.Records.{layout_of, word_at, elements, drawn_at}
 use Rattle.kt_rule.specs.Facts.{task_in}
+use Rattle.kt_rule.specs.LoopWords.{loop_words, hand_of, hands_of}
+use Rattle.kt_rule.specs.LoopFacts.{Handles}
 use Rattle.kt_rule.specs.Rule.{Slots, Facts, Holds}
 use Rattle.kt_rule.specs.Steps.{Tells, state_place, state_word, BeforeKnown, won_own, Draws, MaySet, next_of, builds, published, IsBehind, IsBerth, IsBuilt}
 use Rattle.kt_rule.proofs.Moves.{at_below}
@@ -38,11 +41,13 @@ use Rattle.kt_rule.proofs.Words.{says_field}
 use Rattle.kt_steps.proofs.Steps.{inside, same_state, runs_live}
 use Rattle.kt_steps.proofs.Asides.{builds_one}
 use Rattle.kt_steps.proofs.Drawing.{draws}
+use Rattle.kt_steps.proofs.LoopSeats.{at_hand}
 use Rattle.kt_steps.proofs.Fresh.{publishes}
 use Rattle.kt_steps.proofs.Telling.{the_some, claims_own_at, stands_told, starts_given_at}
 use Rattle.kt_tasks.specs.Claims.{AreFew, ClaimsOwnFew, StartsFew}
 use Rattle.kt_tasks.specs.Fields.{SetsField, PublishesAs}
-use Rattle.kt_tasks.specs.Hands.{IsInHand, IsHeld, IsFieldOf, HasFields, LooksHeld}
+use Rattle.kt_loops.proofs.OnTheWay.{loops_on}
+use Rattle.kt_tasks.specs.Hands.{IsLoopInHand, IsInHand, IsHeld, IsFieldOf, HasFields, LooksHeld}
 use Rattle.kt_tasks.specs.Publications.{DrawsNext}
 use Rattle.kt_tasks.proofs.Counted.{few_there, counted}
 use Rattle.kt_tasks.proofs.Found.{won_is}
@@ -66,6 +71,9 @@ won_told false A B C e h = absurd (cc e)
 looked_told : (b : Bool) (W V B C X : Type 0) → b ≡ false → MatchBool b W (B × X) → C → MatchBool b V (B × C)
 looked_told true W V B C X e h look = absurd (cc e)
 looked_told false W V B C X e h look = (h.0, look)
+
+running_not : {x : Phase} → x ≡ Running → x ≢ Finished
+running_not e d = let z : Running ≡ Finished = sym e ∙ d in cc
 
 module _ (opening : List ℕ) (slots id : ℕ) (me : Me Slots View) (j : Setup) (setup : me.0.setup ≡ Some j) (live : 0 < me.0.parts) where
   pub claims_own_few : (m : Spot) (a i old new : ℕ) → get_elem? me.0.region.spots a ≡ some m → BeforeKnown me.0 m.path
@@ -179,15 +187,34 @@ module _ (opening : List ℕ) (slots id : ℕ) (me : Me Slots View) (j : Setup) 
       both {y} {ys} d = let x : e ≡ y = cc in let xs : rest ≡ ys = cc in λ k. published me.0 (x k) (xs k) b
 
   module _ (s : State Slots View) (lies : Lies) (f : Facts j lies s) (at : get_elem? s.views id ≡ some me.0) where
+    hands : Handles j.workers lies f.looped.owner (loop_words (layout_of j) s.words) (hands_of s.views) id (hand_of me.0)
+    hands = f.looped.handles id (hand_of me.0) (at_hand s.views id me.0 at)
+
+    -- a loop of which the seat has positions lives: some of its indexes are not finished
+    loop_in_hand : (m : Spot) → IsLoopInHand me.0 m → (t : Lie) × (lies m.path ≡ some t) × (is_gone t.stage ≡ false) × (t.berth ≡ m.berth)
+    loop_in_hand m (inl (x, is, x_is)) = let h = hands.pieces x is in (
+      h.task,
+      ap (λ (z : Spot). lies z.path) (sym x_is) ∙ h.is,
+      h.live,
+      h.berth ∙ ap (λ (z : Spot). z.berth) x_is,
+    )
+    loop_in_hand m (inr (e, is, e_is)) = let h = hands.taken e is in (
+      h.task,
+      ap (λ (z : Spot). lies z.path) (sym e_is) ∙ h.is,
+      ap is_gone (loops_on j lies s f e.spot.path h.task h.is e.index h.index h.at (running_not h.phase_is)).1,
+      h.berth ∙ ap (λ (z : Spot). z.berth) e_is,
+    )
+
     -- a task in hand lies in its record
     pub in_hand : (m : Spot) → IsInHand me.0 m → (t : Lie) × (lies m.path ≡ some t) × (is_gone t.stage ≡ false) × (t.berth ≡ m.berth)
     in_hand m (inl given) = let g = (f.fits id me.0 at).given m given in (g.0, g.1, ap is_gone g.3.1, g.2)
-    in_hand m (inr (e, runs, e_is)) = let g = (f.fits id me.0 at).running e runs in (
+    in_hand m (inr (inl (e, runs, e_is))) = let g = (f.fits id me.0 at).running e runs in (
       g.0,
       ap (λ (z : Spot). lies z.path) (sym e_is) ∙ g.1,
       ap is_gone g.3.1 ∙ runs_live e.looping g.3.0,
       g.2.berth ∙ ap (λ (z : Spot). z.berth) e_is,
     )
+    in_hand m (inr (inr loop)) = loop_in_hand m loop
 
     pub in_hand_fits : (m : Spot) → IsInHand me.0 m → Fits j.program m.berth.call
     in_hand_fits m hand = let y = in_hand m hand in subst (λ (z : Berth). Fits j.program z.call) y.3

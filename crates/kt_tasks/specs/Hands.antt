@@ -1,4 +1,4 @@
--- The tasks that a seat has in hand: those that it runs, and those that it was given.
+-- The tasks that a seat has in hand: those that it runs, those that it was given, and the loops of its pieces and indexes.
 use Rattle.std.specs.Prelude.{◌≡◌, ℕ, suc, ◌*◌, ◌<◌, ◌⊎◌, List, map, Some}
 use mathlib.Core.Option.{some}
 use lib.ListN.{get_elem?}
@@ -13,15 +13,21 @@ use Rattle.kt_rule.specs.declared.views.Setup.{Setup}
 use Rattle.kt_rule.specs.declared.views.Berth.{Berth}
 use Rattle.kt_rule.specs.declared.views.Spot.{Spot}
 use Rattle.kt_rule.specs.declared.views.Execution.{Execution}
+use Rattle.kt_rule.specs.declared.views.Share.{Share}
+use Rattle.kt_rule.specs.declared.views.IndexRun.{IndexRun}
 use Rattle.kt_rule.specs.declared.views.View.{View}
 use Rattle.kt_rule.specs.Lists.{In}
 use Rattle.kt_rule.specs.Lies.{Lie}
 use Rattle.kt_rule.specs.Records.{layout_of, head_of, task_field}
 use Rattle.kt_rule.specs.Rule.{Slots}
 
--- the seat runs the task, or was given it
+-- the seat has positions of the loop in hand
+abbrev pub IsLoopInHand : View → Spot → Type 0
+IsLoopInHand v m = ((x : Share) × In x v.loops.pieces × (x.spot ≡ m)) ⊎ ((e : IndexRun) × In e v.loops.taken × (e.spot ≡ m))
+
+-- the seat runs the task, or was given it, or has positions of it in hand
 abbrev pub IsInHand : View → Spot → Type 0
-IsInHand v m = In m v.tasks.given ⊎ ((e : Execution) × In e v.tasks.running × (e.spot ≡ m))
+IsInHand v m = In m v.tasks.given ⊎ (((e : Execution) × In e v.tasks.running × (e.spot ≡ m)) ⊎ IsLoopInHand v m)
 
 -- and it lies in the record with this number
 abbrev pub IsHeld : View → ℕ → Spot → Type 0

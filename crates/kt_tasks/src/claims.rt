@@ -10,16 +10,17 @@ ghost use Rattle.std.specs.Prelude.{◌≡◌, ◌≢◌, ℕ, ◌*◌, ◌<◌,
 ghost use mathlib.Core.Option.{some};
 ghost use lib.ListN.{get_elem?};
 ghost use Rattle.kt_law.specs.declared.stands.Stand.TheVariants as S;
+ghost use Rattle.kt_loops.specs.Operations.{FinishesAt, MayFinish, finishes};
 ghost use Rattle.kt_order.specs.Body.{Stop};
 ghost use Rattle.kt_order.specs.Rest.{left};
 ghost use Rattle.kt_prog.specs.Reference.{machine_of};
 ghost use Rattle.kt_runs.specs.ByPath.{child};
 ghost use Rattle.kt_rule.specs.Facts.{task_in};
 ghost use Rattle.kt_rule.specs.Lists.{In};
-ghost use Rattle.kt_rule.specs.Steps.{BeforeKnown, Tells, ends, starts, won_own};
+ghost use Rattle.kt_rule.specs.Steps.{BeforeKnown, Tells, starts, won_own};
 ghost use Rattle.kt_rule.specs.declared.views.Execution.{Execution};
 ghost use Rattle.kt_rule.specs.declared.views.Spot.{Spot};
-ghost use Rattle.kt_steps.specs.Told.{EndsAt, IsEnded, IsLiveOf, IsMine, IsNotedReady, ShowsGiven, ShowsOwn, ShowsRunning};
+ghost use Rattle.kt_steps.specs.Told.{IsLiveOf, IsMine, IsNotedReady, ShowsGiven, ShowsOwn, ShowsRunning};
 ghost use Rattle.kt_tasks.specs.declared.states.Claim.TheVariants as C;
 ghost use Rattle.kt_tasks.specs.Claims.{AreFew, Claimed, ClaimedFor, ClaimsForFound, ClaimsOwnFew, StartsFew};
 ghost use Rattle.kt_words.specs.Words.{IsStateWord, packed_state};
@@ -71,17 +72,18 @@ impl Play<(), View> for LookingRunning {
 struct Finishing;
 
 impl Play<(), View> for Finishing {
-    ghost then = { Tells EndsAt };
+    ghost then = { Tells FinishesAt };
 }
 
-/// Finishes the task of the running body, which is at its end or at a fault, and whose children the seat knows finished.
+/// Finishes the task of the running body: one that is at its end or at a fault, and whose children the seat knows finished; or a loop
+/// that has begun and of which nothing is left.
 pub fn finish(t: &RunTable, s: &mut Seat, at: u32)
     requires seat { s.old.token.table_id ≡ t.now.table.shared.table_id }
     requires live { IsLiveOf t.now.layout s.old.worker s.old.token.me.0 }
     requires inside { at < RECORDS * t.now.layout.workers }
-    requires ended { IsEnded s.old.token.me.0 at }
+    requires ended { MayFinish s.old.token.me.0 at }
     ensures seat { (s.new.token.table_id ≡ s.old.token.table_id) × (s.new.token.me.1 ≡ s.old.token.me.1) × (s.new.worker ≡ s.old.worker) × (s.new.word ≡ s.old.word) }
-    ensures finished { (e : Execution) (rest : List Execution) → s.old.token.me.0.tasks.running ≡ e ∷ rest → s.new.token.me.0 ≡ ends s.old.token.me.0 e rest }
+    ensures finished { (e : Execution) (rest : List Execution) → s.old.token.me.0.tasks.running ≡ e ∷ rest → s.new.token.me.0 ≡ finishes s.old.token.me.0 e rest }
 {
     let place = t.layout.field(at, STATE);
     let found = t.table.shared.load::<LookingRunning>(&mut s.token, place);

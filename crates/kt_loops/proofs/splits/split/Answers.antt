@@ -19,12 +19,18 @@ load-word-requires c = let l = c.requires.live in let wide = c.args.t.now.wide i
 )
 
 pub returns-in-Short-clause-split : goal.returns-in-Short-clause-split
-returns-in-Short-clause-split c = let p = c.pair_in.ensures.pair in let d = c.in-Short.ensures in let count = d.0 in let short = d.1 in (
-  short,
-  sights_short (step c.args.t.now.table.shared.table_id.slots c.interval-place.result 0 0 none) c.args.s.now.token.me.0
-      c.load-word.new.seat.me.0 c.load-word.result c.pair_in.result p.0 p.1 c.load-word.ensures.2.0
-      (omega (arith, count, short)),
-)
+returns-in-Short-clause-split c = let l = c.requires.live in let p = c.pair_in.ensures.pair in let d = c.in-Short.ensures in
+    let count = d.0 in let short = d.1 in (
+      c.pair_in.result,
+      p.0,
+      count,
+      short,
+      sights_short (step c.args.t.now.table.shared.table_id.slots c.interval-place.result 0 0 none) c.args.s.now.token.me.0
+          c.load-word.new.seat.me.0 c.load-word.result c.pair_in.result p.0 p.1 l.setup l.told c.args.victim
+          (subst (λ z. c.args.victim < z.workers) (sym l.layout) c.requires.inside)
+          (c.interval-place.ensures.value ∙ (λ i. place (sym l.layout i) (worker_word c.args.victim interval))) c.load-word.ensures.2.0
+          (omega (arith, count, short)),
+    )
 
 pub load-home-requires : goal.load-home-requires
 load-home-requires c = let l = c.requires.live in let wide = c.args.t.now.wide in let inside = c.home.ensures.inside in
@@ -73,10 +79,10 @@ overflow_cast-result c = let l = c.requires.live in
     let kept = c.in-Cut.cut.left in let dealt = c.in-Cut.cut.pieces.items in
     let small = kept_fits x kept c.args.parts dealt p.0 d.0 c.requires.some d.1 in
     let w = c.exchange-found.new.s.token.me.0 in
-    let told = told_here v then w c.args.victim c.load-home.result c.args.parts x kept dealt saw d.0 slots c.interval-place.result c.load-word.result
-    c.pack_pair-left.result c.exchange-found.result p.0 p.1 small c.pack_pair-left.ensures d.1 c.exchange-found.ensures.told.0 in
-    let given = Given v then w c.args.victim c.load-home.result c.args.parts x kept dealt saw d.0 in
-    let small_home = home_small v then w c.args.victim c.load-home.result c.args.parts x kept dealt saw d.0
+    let told = told_here v then w c.args.victim c.load-home.result c.args.parts x kept dealt saw p.0 d.0 slots c.interval-place.result c.load-word.result
+    c.pack_pair-left.result c.exchange-found.result p.1 small c.pack_pair-left.ensures d.1 c.exchange-found.ensures.told.0 in
+    let given = Given v then w c.args.victim c.load-home.result c.args.parts x kept dealt saw p.0 d.0 in
+    let small_home = home_small v then w c.args.victim c.load-home.result c.args.parts x kept dealt saw p.0 d.0
     (hit _ _ given (w ≡ forgets then) c.if-found-word.true told) l.setup l.told in
     let some_home = small_home.0 in let few = small_home.1 in omega (arith, some_home, few)
 
@@ -93,10 +99,10 @@ overflow_sub-result c = let l = c.requires.live in
     let kept = c.in-Cut.cut.left in let dealt = c.in-Cut.cut.pieces.items in
     let small = kept_fits x kept c.args.parts dealt p.0 d.0 c.requires.some d.1 in
     let w = c.exchange-found.new.s.token.me.0 in
-    let told = told_here v then w c.args.victim c.load-home.result c.args.parts x kept dealt saw d.0 slots c.interval-place.result c.load-word.result
-    c.pack_pair-left.result c.exchange-found.result p.0 p.1 small c.pack_pair-left.ensures d.1 c.exchange-found.ensures.told.0 in
-    let given = Given v then w c.args.victim c.load-home.result c.args.parts x kept dealt saw d.0 in
-    let small_home = home_small v then w c.args.victim c.load-home.result c.args.parts x kept dealt saw d.0
+    let told = told_here v then w c.args.victim c.load-home.result c.args.parts x kept dealt saw p.0 d.0 slots c.interval-place.result c.load-word.result
+    c.pack_pair-left.result c.exchange-found.result p.1 small c.pack_pair-left.ensures d.1 c.exchange-found.ensures.told.0 in
+    let given = Given v then w c.args.victim c.load-home.result c.args.parts x kept dealt saw p.0 d.0 in
+    let small_home = home_small v then w c.args.victim c.load-home.result c.args.parts x kept dealt saw p.0 d.0
     (hit _ _ given (w ≡ forgets then) c.if-found-word.true told) l.setup l.told in
     let some_home = small_home.0 in let few = small_home.1 in omega (arith, some_home, few)
 
@@ -113,10 +119,10 @@ returns-then-found-word-clause-split c = let l = c.requires.live in
     let kept = c.in-Cut.cut.left in let dealt = c.in-Cut.cut.pieces.items in
     let small = kept_fits x kept c.args.parts dealt p.0 d.0 c.requires.some d.1 in
     let w = c.exchange-found.new.s.token.me.0 in
-    let told = told_here v then w c.args.victim c.load-home.result c.args.parts x kept dealt saw d.0 slots c.interval-place.result c.load-word.result
-    c.pack_pair-left.result c.exchange-found.result p.0 p.1 small c.pack_pair-left.ensures d.1 c.exchange-found.ensures.told.0 in
-    let given = Given v then w c.args.victim c.load-home.result c.args.parts x kept dealt saw d.0 in
-    split_got v then w c.args.victim c.load-home.result c.args.parts x kept dealt saw d.0 _ refl
+    let told = told_here v then w c.args.victim c.load-home.result c.args.parts x kept dealt saw p.0 d.0 slots c.interval-place.result c.load-word.result
+    c.pack_pair-left.result c.exchange-found.result p.1 small c.pack_pair-left.ensures d.1 c.exchange-found.ensures.told.0 in
+    let given = Given v then w c.args.victim c.load-home.result c.args.parts x kept dealt saw p.0 d.0 in
+    split_got v then w c.args.victim c.load-home.result c.args.parts x kept dealt saw p.0 d.0 _ refl
     (hit _ _ given (w ≡ forgets then) c.if-found-word.true told) d.1
 
 pub returns-else-found-word-clause-split : goal.returns-else-found-word-clause-split
@@ -132,8 +138,8 @@ returns-else-found-word-clause-split c = let l = c.requires.live in
     let kept = c.in-Cut.cut.left in let dealt = c.in-Cut.cut.pieces.items in
     let small = kept_fits x kept c.args.parts dealt p.0 d.0 c.requires.some d.1 in
     let w = c.exchange-found.new.s.token.me.0 in
-    let told = told_here v then w c.args.victim c.load-home.result c.args.parts x kept dealt saw d.0 slots c.interval-place.result c.load-word.result
-    c.pack_pair-left.result c.exchange-found.result p.0 p.1 small c.pack_pair-left.ensures d.1 c.exchange-found.ensures.told.0 in
-    let given = Given v then w c.args.victim c.load-home.result c.args.parts x kept dealt saw d.0 in
-    split_moved v then w c.args.victim c.load-home.result c.args.parts x kept dealt saw d.0 c.exchange-found.result
+    let told = told_here v then w c.args.victim c.load-home.result c.args.parts x kept dealt saw p.0 d.0 slots c.interval-place.result c.load-word.result
+    c.pack_pair-left.result c.exchange-found.result p.1 small c.pack_pair-left.ensures d.1 c.exchange-found.ensures.told.0 in
+    let given = Given v then w c.args.victim c.load-home.result c.args.parts x kept dealt saw p.0 d.0 in
+    split_moved v then w c.args.victim c.load-home.result c.args.parts x kept dealt saw p.0 d.0 c.exchange-found.result
     (λ e. c.if-found-word.false (e ∙ p.1)) (miss _ _ given (w ≡ forgets then) c.if-found-word.false told)
