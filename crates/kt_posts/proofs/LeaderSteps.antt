@@ -393,7 +393,7 @@ module _ (j : Setup) (lies : Lies) (s : State Slots View) (f : Facts j lies s) (
       share_is : IsShare lies x
       share_is = (f.looped.handles id (hand_of v) (at_hand s.views id v at)).pieces x x_in
 
-      piece_fits : IsPair (pair_of x)
+      pub piece_fits : IsPair (pair_of x)
       piece_fits = pair_fits j lies s f x.spot.path share_is.task x.low x.high share_is.is share_is.first share_is.some_left share_is.last
 
       none_before : piece_in (own_word l s.words post k) ≡ 0

@@ -57,11 +57,11 @@ and_false : (b c : Bool) → c ≡ false → (b && c) ≡ false
 and_false true c e = e
 and_false false c e = refl
 
-keeps_one : (a low : ℕ) (y : Share) (xs : List Share) → low ≢ y.low → other_pieces a low (y ∷ xs) ≡ y ∷ other_pieces a low xs
+pub keeps_one : (a low : ℕ) (y : Share) (xs : List Share) → low ≢ y.low → other_pieces a low (y ∷ xs) ≡ y ∷ other_pieces a low xs
 keeps_one a low y xs other = ap (λ (b : Bool). cond b (other_pieces a low xs) (y ∷ other_pieces a low xs))
     (and_false (nat_eq a y.spot.berth.at) (nat_eq low y.low) (ne_eqb low y.low other))
 
-drops_one : (x : Share) (xs : List Share) → other_pieces x.spot.berth.at x.low (x ∷ xs) ≡ other_pieces x.spot.berth.at x.low xs
+pub drops_one : (x : Share) (xs : List Share) → other_pieces x.spot.berth.at x.low (x ∷ xs) ≡ other_pieces x.spot.berth.at x.low xs
 drops_one x xs = λ i. cond (eq-eqb x.spot.berth.at x.spot.berth.at refl i && eq-eqb x.low x.low refl i)
     (other_pieces x.spot.berth.at x.low xs) (x ∷ other_pieces x.spot.berth.at x.low xs)
 

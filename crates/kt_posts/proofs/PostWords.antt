@@ -102,6 +102,10 @@ pub task_one : (u v : ℕ) → packed_post (P.Task u) ≡ packed_post (P.Task v)
 unfolding packed_post
 task_one u v e = omega arith
 
+pub piece_one : (u v : ℕ) → packed_post (P.Piece u) ≡ packed_post (P.Piece v) → u ≡ v
+unfolding packed_post
+piece_one u v e = omega arith
+
 -- one word of one worker
 pub worker_one : (l : Layout) (k i : ℕ) (o : Own) → k < l.workers → i < l.workers
     → place l (worker_word k o) ≡ place l (worker_word i o) → k ≡ i

@@ -8,7 +8,7 @@ use lib.ListN.{get_elem?}
 use Rattle.atomic_table.specs.Table.{State, Me, Act, Valid, carried_after, stepped, keeps, step, Allows}
 use Rattle.atomic_table.proofs.Lists.{set_again}
 use Rattle.kt_words.specs.Places.{place, worker_word, Own, request, post, answer}
-use Rattle.kt_words.specs.Words.{packed_post, IsPost}
+use Rattle.kt_words.specs.Words.{packed_post, packed_pair, IsPost}
 use Rattle.kt_words.specs.declared.posts.Post.{Post}
 use Rattle.kt_words.specs.declared.posts.Post.TheVariants as P
 use Rattle.kt_rule.specs.declared.views.Setup.{Setup}
@@ -23,9 +23,10 @@ use Rattle.kt_rule.specs.Rule.{Slots, Facts, Holds}
 use Rattle.kt_rule.specs.Steps.{Tells}
 use Rattle.kt_steps.proofs.Steps.{set_word, inside, holds_so, holds_at, won, told_won, told_lost}
 use Rattle.kt_steps.proofs.Telling.{the_some}
-use Rattle.kt_posts.specs.Desks.{is_answer, posts, sees, gets_piece, freed, takes_task, takes_piece, finds_busy, leads_now, looks_at, holds_one, answers_one, gives_one, releases_now}
-use Rattle.kt_posts.specs.Told.{IsOf, IsPostWord, PostsAt, Peeks, GetsPiece, TakesBack, Withdraws, LeadsAt, HoldsAt, FailsAt, GivesAt, Releases}
-use Rattle.kt_posts.proofs.PostWords.{post_same, pos_not_idle, is_answered, posted_one, task_one, worker_one}
+use Rattle.kt_posts.specs.Desks.{is_answer, posts, sees, gets_piece, freed, takes_task, takes_piece, finds_busy, leads_now, looks_at, holds_one, pair_of, writes_one, answers_one, gives_one, deals_one, gives_piece, releases_now}
+use Rattle.kt_posts.specs.Told.{IsOf, IsPostWord, PostsAt, Peeks, GetsPiece, TakesBack, Withdraws, LeadsAt, HoldsAt, FailsAt, GivesAt, WritesAt, DealsAt, Releases}
+use Rattle.kt_posts.proofs.PieceWords.{pair_same}
+use Rattle.kt_posts.proofs.PostWords.{post_same, pos_not_idle, is_answered, posted_one, task_one, piece_one, worker_one}
 use Rattle.kt_posts.proofs.ThiefSteps as thief
 use Rattle.kt_posts.proofs.LeaderSteps as leader
 
@@ -346,6 +347,61 @@ module _ (opening : List ℕ) (slots id : ℕ) (me : Me Slots View) (j : Setup) 
           refl,
         ),
       )
+
+  pub writes_told : (k i new : ℕ) → In k me.0.desk.held → i ≡ place_of k answer
+      → Allows (Holds opening) slots id me i (λ _. new) (λ _. Tells WritesAt (step slots i new 0 none) me new)
+  writes_told k i new k_in i_is s h out at word =
+      let x = inside opening s j id me.0 h at live setup in let lies = x.0 in let f = x.1 in let v : View = me.0 in
+      let w : View = writes_one v k new in let less = leader.thief_less j lies s f id v at live k k_in in (
+        w,
+        keeps,
+        tt,
+        holds_at opening j lies s id (place_of k answer) i new new w w (sym i_is) refl refl
+            (leader.writes_it j lies s f id v at live k k_in new),
+        (
+          any_setup (λ z. (y : ℕ) → IsOf z y answer i → w ≡ writes_one v y new)
+              (λ y of. ap (λ (z : ℕ). writes_one v z new) (one_worker k y answer i less i_is of)),
+          refl,
+        ),
+      )
+
+  pub deals_told : (k : ℕ) (x : Share) (i new : ℕ) → In x me.0.loops.pieces
+      → In (record { thief = k; piece = packed_pair (pair_of x) }) me.0.desk.wrote → IsPost (P.Piece x.spot.berth.at)
+      → i ≡ place_of k post → new ≡ packed_post (P.Piece x.spot.berth.at)
+      → Allows (Holds opening) slots id me i (λ _. new) (λ _. Tells DealsAt (step slots i new 0 none) me new)
+  deals_told k x i new x_in x_wrote fits_o i_is new_is s h out at word =
+      let f = inside opening s j id me.0 h at live setup in
+      let desk = f.1.asked.desks id me.0 at live in let wrote = desk.wrote _ x_wrote in
+      let w : View = gives_piece me.0 k x in
+      let less = leader.thief_less j f.0 s f.1 id me.0 at live k wrote.0 in (
+        w,
+        keeps,
+        tt,
+        holds_at opening j f.0 s id (place_of k post) i (packed_post (P.Piece x.spot.berth.at)) new w w (sym i_is) (sym new_is) refl
+            (leader.gives_piece_it j f.0 s f.1 id me.0 at live k wrote.0 x x_in wrote.1 fits_o),
+        (
+          any_setup
+              (λ z. (y : ℕ) → IsOf z y post i → (u : Share) → In u me.0.loops.pieces
+              → In (record { thief = y; piece = packed_pair (pair_of u) }) me.0.desk.wrote
+              → new ≡ packed_post (P.Piece u.spot.berth.at) → w ≡ gives_piece me.0 y u)
+              (λ y of u u_in u_wrote e. one_piece f.0 f.1 u u_in (one_worker k y post i less i_is of) wrote.0 wrote.1 (desk.wrote _ u_wrote).1
+              (piece_one x.spot.berth.at u.spot.berth.at (sym new_is ∙ e))),
+          refl,
+        ),
+      )
+    where
+      answer_word : ℕ → ℕ
+      answer_word y = word_at (layout_of j) s.words (worker_word y answer)
+
+      -- what is written for this thief tells the piece
+      one_piece : (lies : Lies) (f : Facts j lies s) (u : Share) → In u me.0.loops.pieces → {y : ℕ} → k ≡ y → In k me.0.desk.held
+          → answer_word k ≡ packed_pair (pair_of x) → answer_word y ≡ packed_pair (pair_of u) → x.spot.berth.at ≡ u.spot.berth.at
+          → gives_piece me.0 k x ≡ gives_piece me.0 y u
+      one_piece lies f u u_in {y} same k_in x_is u_is record_same =
+          let u_here : answer_word k ≡ packed_pair (pair_of u) = ap answer_word same ∙ u_is in
+          let p = pair_same (pair_of x) (pair_of u) (leader.piece_fits j lies s f id me.0 at live k k_in x x_in x_is fits_o)
+          (leader.piece_fits j lies s f id me.0 at live k k_in u u_in u_here (subst (λ (z : ℕ). IsPost (P.Piece z)) record_same fits_o))
+          (sym x_is ∙ u_here) in λ q. deals_one me.0 (same q) (record_same q) (p q).low
 
   pub releases_told : (i new : ℕ) → me.0.desk.leads ≡ true → me.0.desk.held ≡ [] → i ≡ place_of me.0.desk.victim request → new ≡ 0
       → Allows (Holds opening) slots id me i (λ _. new) (λ _. Tells Releases (step slots i new 0 none) me new)

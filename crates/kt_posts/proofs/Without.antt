@@ -6,10 +6,11 @@ use Rattle.kt_order.specs.Paths.{same_path}
 use Rattle.kt_runs.specs.ByPath.{Path}
 use Rattle.kt_rule.specs.declared.views.Promise.{Promise}
 use Rattle.kt_rule.specs.declared.views.Wrote.{Wrote}
+use Rattle.kt_rule.specs.declared.views.View.{View}
 use Rattle.kt_rule.specs.Lists.{times, one_if, In, here, there}
 use Rattle.kt_rule.specs.Views.{promise_path}
 use Rattle.kt_rule.proofs.Puts.{same_is, same_ne}
-use Rattle.kt_posts.specs.Desks.{without, unwritten, other_promises}
+use Rattle.kt_posts.specs.Desks.{without, unwritten, writes_one, other_promises, deals_one}
 
 number_is : (k i : ℕ) → nat_eq k i ≡ true → k ≡ i
 number_is k i e = dite (ℕ_discrete k i) (λ d. d) (λ no. let z : true ≡ false = sym e ∙ ne_eqb k i no in cc)
@@ -44,6 +45,24 @@ in_unwritten k (x ∷ es) e h = go e x (nat_eq x.thief k) refl h (in_unwritten k
     go e x true d g rest = let r = rest g in (there r.0, r.1)
     go e x false d here rest = (here, λ f. let z : true ≡ false = sym (eq-eqb x.thief k f) ∙ d in cc)
     go e x false d (there g) rest = let r = rest g in (there r.0, r.1)
+
+-- what is written for a thief goes when the thief is answered
+pub unwritten_one : (k n : ℕ) (es : List Wrote) → unwritten k (record { thief = k; piece = n } ∷ es) ≡ unwritten k es
+unwritten_one k n es = ap (λ (b : Bool). cond b (unwritten k es) (record { thief = k; piece = n } ∷ unwritten k es)) (eq-eqb k k refl)
+
+pub unwritten_again : (k : ℕ) (es : List Wrote) → unwritten k (unwritten k es) ≡ unwritten k es
+unwritten_again k [] = refl
+unwritten_again k (x ∷ es) = go (nat_eq x.thief k) refl (unwritten_again k es)
+  where
+    go : (b : Bool) → nat_eq x.thief k ≡ b → unwritten k (unwritten k es) ≡ unwritten k es
+        → unwritten k (cond b (unwritten k es) (x ∷ unwritten k es)) ≡ cond b (unwritten k es) (x ∷ unwritten k es)
+    go true e rest = rest
+    go false e rest = ap (λ (b : Bool). cond b (unwritten k (unwritten k es)) (x ∷ unwritten k (unwritten k es))) e ∙ ap (λ (ys : List Wrote). x ∷ ys) rest
+
+-- to write a piece for a thief and to give it is to give it
+pub deals_written : (v : View) (k n at low : ℕ) → deals_one (writes_one v k n) k at low ≡ deals_one v k at low
+deals_written v k n at low = ap (λ (ws : List Wrote). record (deals_one v k at low) { desk = record v.desk { held = without k v.desk.held; wrote = ws } })
+    (unwritten_one k n (unwritten k v.desk.wrote) ∙ unwritten_again k v.desk.wrote)
 
 -- the promises but those of the task at a path
 abbrev pub kept_promises : Path → List Promise → List Promise

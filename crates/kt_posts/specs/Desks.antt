@@ -108,11 +108,12 @@ abbrev pub other_pieces : ℕ → ℕ → List Share → List Share
 other_pieces at low [] = []
 other_pieces at low (x ∷ xs) = cond (nat_eq at x.spot.berth.at && nat_eq low x.low) (other_pieces at low xs) (x ∷ other_pieces at low xs)
 
--- it is answered with this piece, which is not in hand any longer
+-- it is answered with the piece of this record that begins at this position, which is not in hand any longer
+abbrev pub deals_one : View → ℕ → ℕ → ℕ → View
+deals_one v thief at low = record (answers_one v thief) { loops = record v.loops { pieces = other_pieces at low v.loops.pieces } }
+
 abbrev pub gives_piece : View → ℕ → Share → View
-gives_piece v thief x = record (answers_one v thief) {
-  loops = record v.loops { pieces = other_pieces x.spot.berth.at x.low v.loops.pieces };
-}
+gives_piece v thief x = deals_one v thief x.spot.berth.at x.low
 
 -- the lead is given up
 abbrev pub releases_now : View → View

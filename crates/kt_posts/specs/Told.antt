@@ -2,7 +2,7 @@
 -- that is.
 use Rattle.std.specs.Prelude.{◌≡◌, ℕ, ◌*◌, ◌<◌, ◌≤◌, ◌==◌, false, true, MatchBool, Some}
 use Rattle.atomic_table.specs.Table.{Step}
-use Rattle.kt_words.specs.Places.{place, worker_word, Own, request, post}
+use Rattle.kt_words.specs.Places.{place, worker_word, Own, request, post, answer}
 use Rattle.kt_words.specs.declared.layouts.TheConstants.{RECORDS}
 use Rattle.kt_words.specs.Words.{packed_post, packed_pair, IsPost, IsPair}
 use Rattle.kt_words.specs.declared.posts.Post.{Post}
@@ -11,9 +11,10 @@ use Rattle.kt_rule.specs.declared.views.Setup.{Setup}
 use Rattle.kt_rule.specs.declared.views.Spot.{Spot}
 use Rattle.kt_rule.specs.declared.views.Share.{Share}
 use Rattle.kt_rule.specs.declared.views.View.{View}
+use Rattle.kt_rule.specs.Lists.{In}
 use Rattle.kt_rule.specs.Records.{layout_of}
 use Rattle.kt_rule.specs.Rule.{Slots}
-use Rattle.kt_posts.specs.Desks.{is_answer, is_idle, posts, sees, gets_piece, freed, takes_task, pair_of, takes_piece, finds_busy, leads_now, looks_at, holds_one, answers_one, gives_one, releases_now}
+use Rattle.kt_posts.specs.Desks.{is_answer, is_idle, posts, sees, gets_piece, freed, takes_task, pair_of, takes_piece, finds_busy, leads_now, looks_at, holds_one, writes_one, answers_one, gives_one, gives_piece, releases_now}
 
 -- the word is this one of worker k
 abbrev pub IsOf : Setup → ℕ → Own → ℕ → Type 0
@@ -73,6 +74,16 @@ FailsAt st v n w = (j : Setup) → v.setup ≡ Some j → (thief : ℕ) → IsOf
 abbrev pub GivesAt : Step Slots → View → ℕ → View → Type 0
 GivesAt st v n w = (j : Setup) → v.setup ≡ Some j → (thief : ℕ) → IsOf j thief post st.word → (at : ℕ) → IsPost (P.Task at)
     → st.first ≡ packed_post (P.Task at) → w ≡ gives_one v thief at
+
+-- a piece is written in a held thief's answer word
+abbrev pub WritesAt : Step Slots → View → ℕ → View → Type 0
+WritesAt st v n w = (j : Setup) → v.setup ≡ Some j → (thief : ℕ) → IsOf j thief answer st.word → w ≡ writes_one v thief st.first
+
+-- and it is given in the thief's post
+abbrev pub DealsAt : Step Slots → View → ℕ → View → Type 0
+DealsAt st v n w = (j : Setup) → v.setup ≡ Some j → (thief : ℕ) → IsOf j thief post st.word → (x : Share) → In x v.loops.pieces
+    → In (record { thief = thief; piece = packed_pair (pair_of x) }) v.desk.wrote → st.first ≡ packed_post (P.Piece x.spot.berth.at)
+    → w ≡ gives_piece v thief x
 
 abbrev pub Releases : Step Slots → View → ℕ → View → Type 0
 Releases st v n w = w ≡ releases_now v

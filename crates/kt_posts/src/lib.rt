@@ -17,8 +17,17 @@
 //! and the victim's request word names one worker. What an answer gives is in
 //! one hand after another: promised by the leader, posted, given to the thief.
 //!
-//! A call is one step of the table, but for the ones that look at a post: they
-//! load it, and take an answer by an exchange that finds what was loaded.
+//! THE LIFE OF A PIECE. A leader has the pieces in hand that it split from the
+//! victim's interval. It writes one as a pair into the answer word of a thief
+//! whose request it holds, and then the loop's record into the thief's post: from
+//! then on the piece is in the post and in nobody's hand. The thief loads its
+//! answer word once it saw this answer, and takes the answer: the piece is in
+//! its hand. Between the two only this leader may write the answer word, since
+//! it holds the request; afterwards nobody, until the thief asks anew.
+//!
+//! A call is one step of the table, but for the ones that look at a post, which
+//! load it and take an answer by an exchange that finds what was loaded, and
+//! for the one that answers with a piece, which stores two words.
 #![tactic(auto)]
 
 mod answers;
@@ -27,5 +36,5 @@ mod leaders;
 mod thieves;
 
 pub use answers::{Answer, Lead};
-pub use leaders::{answer_failed, answer_task, hold, lead, release};
+pub use leaders::{answer_failed, answer_piece, answer_task, hold, lead, release};
 pub use thieves::{look, post, withdraw};

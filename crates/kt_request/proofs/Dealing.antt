@@ -1,22 +1,25 @@
 -- Holding in order, and answers in order.
-use Rattle.std.proofs.Common.{◌≡◌, ◌≢◌, ℕ, zero, suc, ◌+◌, ◌<◌, ◌≤◌, ◌==◌, Bool, true, false, cond, List, [], ◌∷◌, ◌++◌, length, drop, slice_index, nat_eq, sym, refl, ap, ◌∙◌, subst, inl, inr, arith, eq-eqb, ne_eqb}
+use Rattle.std.proofs.Common.{◌≡◌, ◌≢◌, ℕ, zero, suc, ◌+◌, ◌-◌, ◌<◌, ◌≤◌, ◌==◌, Bool, true, false, cond, List, [], ◌∷◌, ◌++◌, length, drop, slice_index, nat_eq, sym, refl, ap, ◌∙◌, subst, inl, inr, arith, eq-eqb, ne_eqb}
 use mathlib.Core.Logic.{dite}
 use native.Mathlib.Decide.{ℕ_discrete}
 use Rattle.kt_words.specs.Words.{packed_post}
 use Rattle.kt_words.specs.declared.posts.Post.TheVariants as P
 use Rattle.kt_words.specs.declared.layouts.Layout.{Layout}
+use Rattle.kt_words.specs.declared.pairs.Pair.{Pair}
 use Rattle.kt_rule.specs.declared.views.View.{View}
 use Rattle.kt_rule.specs.declared.views.Found.{Found}
 use Rattle.kt_rule.specs.declared.views.Promise.{Promise}
+use Rattle.kt_rule.specs.declared.views.Share.{Share}
 use Rattle.kt_rule.specs.declared.views.Desk.{Desk}
 use Rattle.kt_rule.specs.Lists.{In, here, there}
 use Rattle.kt_steps.specs.Told.{IsLiveOf}
 use Rattle.kt_posts.specs.declared.answers.Answer.{Answer}
 use Rattle.kt_posts.specs.declared.answers.Answer.TheVariants as A
 use Rattle.kt_posts.specs.Told.{IsPostWord}
-use Rattle.kt_posts.specs.Desks.{holds_one, looks_at, without, other_promises, answers_one, gives_one}
+use Rattle.kt_posts.specs.Desks.{holds_one, looks_at, without, other_promises, answers_one, gives_one, other_pieces, deals_one, pair_of}
 use Rattle.kt_request.specs.Reports.{InOrder, posted_at, deal}
-use Rattle.kt_request.specs.Serving.{Rising, HeldInto, LeadsOn, Answering}
+use Rattle.kt_request.specs.Serving.{Rising, HeldInto, LeadsOn, AreShares, Answering}
+use Rattle.kt_request.proofs.Pieces.{drop_none, drop_past, drop_next, IsNext, next_piece, next_in, next_given}
 
 -- HOLDS
 
@@ -132,23 +135,8 @@ live_leads l k k' v w k_is is live = record {
   own = k_is ∙ (live.own ∙ ap (λ (z : View). z.worker) (sym is));
 }
 
-pub drop_none : (xs : List ℕ) → drop 0 xs ≡ xs
-drop_none [] = refl
-drop_none (x ∷ xs) = refl
-
-drop_suc : (xs : List ℕ) (i : ℕ) → i < length xs → drop i xs ≡ slice_index xs i ∷ drop (suc i) xs
-drop_suc [] i h = absurd (omega arith)
-drop_suc (x ∷ xs) zero h = λ k. x ∷ sym (drop_none xs) k
-drop_suc (x ∷ xs) (suc i) h = drop_suc xs i (omega arith)
-
 pub drop_at : (xs : List ℕ) (i : ℕ) → i < length xs → drop i xs ≡ slice_index xs i ∷ drop (i + 1) xs
-drop_at xs i h = drop_suc xs i h ∙ ap (λ (k : ℕ). slice_index xs i ∷ drop k xs) (let e : suc i ≡ i + 1 = omega arith in e)
-
-pub drop_past : (xs : List ℕ) (i : ℕ) → length xs ≤ i → drop i xs ≡ []
-drop_past [] zero h = refl
-drop_past [] (suc i) h = refl
-drop_past (x ∷ xs) zero h = absurd (omega arith)
-drop_past (x ∷ xs) (suc i) h = drop_past xs i (omega arith)
+drop_at xs i h = drop_next 0 xs i h ∙ ap (λ (k : ℕ). slice_index xs i ∷ drop k xs) (let e : suc i ≡ i + 1 = omega arith in e)
 
 rising_drop : (xs : List ℕ) (i : ℕ) → Rising xs → Rising (drop i xs)
 rising_drop xs zero h = subst Rising (sym (drop_none xs)) h
@@ -205,16 +193,34 @@ other_in a (x ∷ ms) m h n = go m x (nat_eq a x.spot.berth.at) refl h n (other_
     go m x false e here n rest = here
     go m x false e (there g) n rest = there (rest g n)
 
-module _ (held given : List ℕ) (v0 : View) (i : ℕ) (v : View) (an : Answering held given v0 i v) (less : i < length held)
-    (rising : Rising held) where
+module _ (held given : List ℕ) (at : ℕ) (pieces : List Pair) (others : List Share) (v0 : View) (i : ℕ) (v : View)
+    (an : Answering held given at pieces others v0 i v) (less : i < length held) (rising : Rising held) where
+  -- the pieces that are left, and those that are left behind the next answer
+  abbrev now : List Pair
+  now = drop (i - length given) pieces
+
+  abbrev then : List Pair
+  then = drop (i + 1 - length given) pieces
+
   pub held_in : In (slice_index held i) v.desk.held
   held_in = subst (In (slice_index held i)) (sym (an.desk ∙ drop_at held i less)) here
 
-  pub answered_failed : (w : View) → length given ≤ i → w ≡ answers_one v (slice_index held i) → Answering held given v0 (i + 1) w
-  answered_failed w past w_is = subst (Answering held given v0 (i + 1)) (sym w_is) (record {
+  -- no piece is left
+  none_now : length given + length pieces ≤ i → now ≡ []
+  none_now past = drop_past pieces (i - length given) (omega (arith, past))
+
+  none_then : length given + length pieces ≤ i → then ≡ []
+  none_then past = drop_past pieces (i + 1 - length given) (omega (arith, past))
+
+  pub answered_failed : (w : View) → length given + length pieces ≤ i → w ≡ answers_one v (slice_index held i)
+      → Answering held given at pieces others v0 (i + 1) w
+  answered_failed w past w_is = subst (Answering held given at pieces others v0 (i + 1)) (sym w_is) (record {
     desk = ap (without (slice_index held i)) an.desk ∙ held_after held i less rising;
-    each = λ j from l. absurd (omega arith);
-    no_more = λ m g. let x = an.no_more m g in let x1 = x.1 in let x2 = x.2 in absurd (omega arith);
+    each = λ j from l. absurd (omega (arith, past, from, l));
+    no_more = λ m g. let x = an.no_more m g in let x1 = x.1 in let x2 = x.2 in absurd (omega (arith, past, x1, x2));
+    hand = (an.hand.0, subst (AreShares at an.hand.0) (none_now past ∙ sym (none_then past)) an.hand.1, an.hand.2);
+    apart = an.apart;
+    few = an.few;
     same = ap (λ (z : View). record z {
       desk = record z.desk {
         held = without (slice_index held i) v.desk.held;
@@ -223,9 +229,42 @@ module _ (held given : List ℕ) (v0 : View) (i : ℕ) (v : View) (an : Answerin
     }) an.same;
   })
 
+  -- the next piece is given
+  module _ (p : Pair) (past : length given ≤ i) (next : now ≡ p ∷ then) where
+    is_next : IsNext at p then others v.loops.pieces
+    is_next = next_piece at p then others v.loops.pieces an.hand.0 (subst (AreShares at an.hand.0) next an.hand.1) an.hand.2
+
+    pub piece_in : (x : Share) × In x v.loops.pieces × (x.spot.berth.at ≡ at) × (pair_of x ≡ p)
+    piece_in = next_in at p then others v.loops.pieces is_next
+
+    pub answered_piece : (w : View) → w ≡ deals_one v (slice_index held i) at p.low → Answering held given at pieces others v0 (i + 1) w
+    answered_piece w w_is = subst (Answering held given at pieces others v0 (i + 1)) (sym w_is) (record {
+      desk = ap (without (slice_index held i)) an.desk ∙ held_after held i less rising;
+      each = λ j from l. absurd (omega (arith, past, from, l));
+      no_more = λ m g. let x = an.no_more m g in let x1 = x.1 in let x2 = x.2 in absurd (omega (arith, past, x1, x2));
+      hand = (is_next.rest, is_next.are, next_given at (i - length given) p then pieces others v.loops.pieces an.apart next is_next);
+      apart = an.apart;
+      few = an.few;
+      same = ap (λ (z : View). record z {
+        desk = record z.desk {
+          held = without (slice_index held i) v.desk.held;
+          wrote = (answers_one v (slice_index held i)).desk.wrote;
+        };
+        loops = record z.loops { pieces = other_pieces at p.low v.loops.pieces };
+      }) an.same;
+    })
+
+    pub deal_piece : deal (drop i held) (drop i given) at now ≡ A.Piece at p ∷ deal (drop (i + 1) held) (drop (i + 1) given) at then
+    deal_piece = (λ k. deal (drop_at held i less k) (drop_past given i past k) at (next k))
+        ∙ (λ k. A.Piece at p ∷ deal (drop (i + 1) held) (sym (drop_past given (i + 1) (omega (arith, past))) k) at then)
+
+  -- no piece was given before all tasks are
+  same_left : i < length given → now ≡ then
+  same_left room = ap (λ (n : ℕ). drop n pieces) (let e : i - length given ≡ i + 1 - length given = omega (arith, room) in e)
+
   pub answered_task : (w : View) → i < length given → Rising given → w ≡ gives_one v (slice_index held i) (slice_index given i)
-      → Answering held given v0 (i + 1) w
-  answered_task w room rising_given w_is = subst (Answering held given v0 (i + 1)) (sym w_is) (record {
+      → Answering held given at pieces others v0 (i + 1) w
+  answered_task w room rising_given w_is = subst (Answering held given at pieces others v0 (i + 1)) (sym w_is) (record {
     desk = ap (without (slice_index held i)) an.desk ∙ held_after held i less rising;
     each = λ j from l. let x = an.each j (omega arith) l in let up = rising_index given i j rising_given (omega arith) l in
         let at : x.0.spot.berth.at ≡ slice_index given j = x.3 in
@@ -237,6 +276,9 @@ module _ (held given : List ℕ) (v0 : View) (i : ℕ) (v : View) (an : Answerin
       x.2,
       x.3,
     );
+    hand = (an.hand.0, subst (AreShares at an.hand.0) (same_left room) an.hand.1, an.hand.2);
+    apart = an.apart;
+    few = an.few;
     same = ap (λ (z : View). record z {
       tasks = record z.tasks { promised = other_promises (slice_index given i) v.tasks.promised };
       desk = record z.desk {
@@ -250,16 +292,24 @@ module _ (held given : List ℕ) (v0 : View) (i : ℕ) (v : View) (an : Answerin
       later i j l n = grind arith
 
   pub deal_task : i < length given
-      → deal (drop i held) (drop i given) ≡ A.Task (slice_index given i) ∷ deal (drop (i + 1) held) (drop (i + 1) given)
-  deal_task room = λ k. deal (drop_at held i less k) (drop_at given i room k)
+      → deal (drop i held) (drop i given) at now ≡ A.Task (slice_index given i) ∷ deal (drop (i + 1) held) (drop (i + 1) given) at then
+  deal_task room = λ k. deal (drop_at held i less k) (drop_at given i room k) at (same_left room k)
 
-  pub deal_failed : length given ≤ i → deal (drop i held) (drop i given) ≡ A.Failed ∷ deal (drop (i + 1) held) (drop (i + 1) given)
-  deal_failed past = (λ k. deal (drop_at held i less k) (drop_past given i past k))
-      ∙ (λ k. A.Failed ∷ deal (drop (i + 1) held) (sym (drop_past given (i + 1) (omega arith)) k))
+  pub deal_failed : length given + length pieces ≤ i
+      → deal (drop i held) (drop i given) at now ≡ A.Failed ∷ deal (drop (i + 1) held) (drop (i + 1) given) at then
+  deal_failed past = (λ k. deal (drop_at held i less k) (drop_past given i (omega (arith, past)) k) at (none_now past k))
+      ∙ (λ k. A.Failed ∷ deal (drop (i + 1) held) (sym (drop_past given (i + 1) (omega (arith, past))) k) at (sym (none_then past) k))
 
 pub answers_more : (xs : List Answer) (a : Answer) (ys : List Answer) → (xs ++ a ∷ []) ++ ys ≡ xs ++ a ∷ ys
 answers_more [] a ys = refl
 answers_more (x ∷ xs) a ys = λ i. x ∷ answers_more xs a ys i
 
-pub deal_none : (held given : List ℕ) (n : ℕ) → n ≡ length held → deal (drop n held) (drop n given) ≡ []
-deal_none held given n e = ap (λ (z : List ℕ). deal z (drop n given)) (drop_past held n (omega arith))
+pub deal_none : (held given : List ℕ) (at : ℕ) (pieces : List Pair) (n : ℕ) → n ≡ length held → deal (drop n held) (drop n given) at pieces ≡ []
+deal_none held given at pieces n e = ap (λ (z : List ℕ). deal z (drop n given) at pieces) (drop_past held n (omega arith))
+
+pub deal_all : (held given : List ℕ) (at : ℕ) (pieces : List Pair)
+    → deal (drop 0 held) (drop 0 given) at (drop (0 - length given) pieces) ≡ deal held given at pieces
+deal_all held given at pieces =
+    let none_before : 0 - length given ≡ 0 = omega arith in
+    let rest = ap (λ (n : ℕ). drop n pieces) none_before ∙ drop_none pieces in
+    λ k. deal (drop_none held k) (drop_none given k) at (rest k)

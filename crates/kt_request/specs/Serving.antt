@@ -1,17 +1,22 @@
--- How far a call of `serve` is: in its holds, in its scan and in its answers. For private calls and proofs.
-use Rattle.std.specs.Prelude.{slice_index, Option, Some, None, ◌≡◌, ◌≢◌, ℕ, ◌+◌, ◌<◌, ◌≤◌, ◌⊎◌, Bool, true, false, List, [], ◌∷◌, ◌++◌, length, take, drop}
+-- How far a call of `serve` is: in its holds, in its scan, in its split and in its answers. For private calls and proofs.
+use Rattle.std.specs.Prelude.{slice_index, Option, Some, None, ◌≡◌, ◌≢◌, ℕ, ◌+◌, ◌-◌, ◌<◌, ◌≤◌, ◌⊎◌, Bool, true, false, List, [], ◌∷◌, ◌++◌, length, take, drop}
 use Rattle.kt_words.specs.Words.{packed_post, packed_state, IsStateWord}
 use Rattle.kt_words.specs.declared.posts.Post.TheVariants as P
 use Rattle.kt_words.specs.declared.states.StateWord.{StateWord}
 use Rattle.kt_words.specs.declared.layouts.TheConstants.{RECORDS}
+use Rattle.kt_words.specs.declared.pairs.Pair.{Pair}
+use Rattle.kt_split.specs.Splits.{Fill}
+use Rattle.kt_loops.specs.declared.splits.Divided.{Divided}
+use Rattle.kt_loops.specs.Calls.{HasSplit}
 use Rattle.kt_ready.specs.declared.verdicts.Seen.{Seen}
 use Rattle.kt_ready.specs.Contents.{Contents, HasFrame}
 use Rattle.kt_rule.specs.declared.views.View.{View}
 use Rattle.kt_rule.specs.declared.views.Note.{Note}
 use Rattle.kt_rule.specs.declared.views.Promise.{Promise}
+use Rattle.kt_rule.specs.declared.views.Share.{Share}
 use Rattle.kt_rule.specs.Lists.{In}
 use Rattle.kt_rule.specs.Steps.{IsFound, note_of, with_note, won_for}
-use Rattle.kt_posts.specs.Desks.{holds_one, looks_at}
+use Rattle.kt_posts.specs.Desks.{holds_one, looks_at, pair_of}
 use Rattle.kt_posts.specs.Told.{IsPostWord}
 use Rattle.kt_request.specs.Notes.{stand_said, IsStanding, last_word, frame, IsTaken, Noted, HasScan, InRow, is_ready, ready_records}
 use Rattle.kt_request.specs.Reports.{Extends}
@@ -116,20 +121,51 @@ pub record Ended (first : ℕ) (held : List ℕ) (v0 : View) (ns : List Note) (v
   pub most : length ns ≤ RECORDS
   pub ends : ((length ns ≡ RECORDS) × (v.seen.notes ≡ ns)) ⊎ (v.seen.notes ≡ note_of (first + length ns) 0 ∷ ns)
 
+-- THE SPLIT
+
+-- it was tried where thieves are left
+abbrev pub HasSplitFor : ℕ → View → ℕ → View → Option Divided → Type 0
+HasSplitFor victim v left w None = (left ≡ 0) × (w ≡ v)
+HasSplitFor victim v left w (Some answer) = (1 ≤ left) × HasSplit victim v left w answer
+
+-- a split changes what was found, the pieces in hand and the sight
+abbrev pub SplitsOnly : View → View → Type 0
+SplitsOnly v w = w ≡ record v {
+  desk = record v.desk { found = w.desk.found };
+  loops = record v.loops { pieces = w.loops.pieces; sight = w.loops.sight };
+}
+
+-- shares of the loop in this record, from where to where these pieces go
+abbrev pub AreShares : ℕ → List Share → List Pair → Type 0
+AreShares at [] [] = Unit {0}
+AreShares at (x ∷ xs) (p ∷ ps) = (x.spot.berth.at ≡ at) × (pair_of x ≡ p) × AreShares at xs ps
+AreShares at xs ps = ⊥
+
+-- the pieces lie side by side, and none of the other shares begins among them
+pub record AreApart (pieces : List Pair) (others : List Share) : Type 0 where
+  pub from : ℕ
+  pub to : ℕ
+  pub fill : Fill from pieces to
+  pub apart : (x : Share) → In x others → (x.low < from) ⊎ (to ≤ x.low)
+
 -- ANSWERS
 
--- the view but for what it knows of a lead, and for promises
+-- the view but for what it knows of a lead, for promises and for pieces in hand
 abbrev pub LeadsOn : View → View → Type 0
 LeadsOn v w = w ≡ record v {
   tasks = record v.tasks { promised = w.tasks.promised };
   desk = record v.desk { held = w.desk.held; wrote = w.desk.wrote };
+  loops = record v.loops { pieces = w.loops.pieces };
 }
 
--- the first i held thieves are answered; the promises left are those to the others
-pub record Answering (held given : List ℕ) (v0 : View) (i : ℕ) (v : View) : Type 0 where
+-- the first i held thieves are answered; the promises left are those to the others, and the pieces in hand are those left and others
+pub record Answering (held given : List ℕ) (at : ℕ) (pieces : List Pair) (others : List Share) (v0 : View) (i : ℕ) (v : View) : Type 0 where
   pub desk : v.desk.held ≡ drop i held
   pub each : (j : ℕ) → i ≤ j → j < length given
       → (m : Promise) × In m v.tasks.promised × (m.thief ≡ slice_index held j) × (m.spot.berth.at ≡ slice_index given j)
   pub no_more : (m : Promise) → In m v.tasks.promised
       → (j : ℕ) × (i ≤ j) × (j < length given) × (m.spot.berth.at ≡ slice_index given j)
+  pub hand : (xs : List Share) × AreShares at xs (drop (i - length given) pieces) × (v.loops.pieces ≡ xs ++ others)
+  pub apart : AreApart pieces others
+  pub few : length given + length pieces ≤ length held
   pub same : LeadsOn v0 v

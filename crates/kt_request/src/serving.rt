@@ -9,13 +9,14 @@ use crate::answering::answer_all;
 use crate::holding::hold_all;
 use crate::scanning::scan_all;
 use crate::served::Served;
+use crate::splitting::split_for;
 use kt_posts::release;
 use kt_ready::Scan;
 use kt_rule::{RunTable, Seat};
 use kt_words::RECORDS;
 
 /// Serves the requests at a victim, which the seat leads: all that are posted are held and answered from one scan of the victim's
-/// records, and the lead is given up. The scan was reserved for all objects and as many entries as a region has records.
+/// records, and from one split of its interval for those that are left; then the lead is given up. The scan was reserved for all objects and as many entries as a region has records.
 pub fn serve(t: &RunTable, s: &mut Seat, victim: u32, scan: &mut Scan) -> Served
     requires seat { s.old.token.table_id ≡ t.now.table.shared.table_id }
     requires live { IsLiveOf t.now.layout s.old.worker s.old.token.me.0 }
@@ -30,7 +31,8 @@ pub fn serve(t: &RunTable, s: &mut Seat, victim: u32, scan: &mut Scan) -> Served
 {
     let held = hold_all(t, s, victim);
     let given = scan_all(t, s, scan, held.as_slice(), RECORDS * victim);
-    let answers = answer_all(t, s, held.as_slice(), given.as_slice());
+    let cut = split_for(t, s, victim, held.len() - given.len());
+    let answers = answer_all(t, s, held.as_slice(), given.as_slice(), &cut);
     release(t, s, victim);
-    Served { held, answers }
+    Served { held, answers, cut }
 }
