@@ -3,12 +3,15 @@ ghost use Rattle.std.specs.Prelude.{◌≡◌, ◌<◌, ◌≤◌, ◌∷◌, []
 ghost use Rattle.kt_law.specs.Acts.{Fold, Load, Store};
 ghost use Rattle.kt_prog.specs.Objects.{objects_of};
 ghost use Rattle.kt_ready.specs.Contents.{HasRoomOf};
-ghost use Rattle.kt_rule.specs.Steps.{BeforeKnown, ends, knows_stop, stands, starts};
+ghost use Rattle.kt_rule.specs.Steps.{BeforeKnown, knows_stop, stands, starts};
 ghost use Rattle.kt_rule.specs.declared.views.Execution.{Execution};
 ghost use Rattle.kt_rule.specs.declared.views.Setup.{Setup};
 ghost use Rattle.kt_rule.specs.declared.views.Spot.{Spot};
 ghost use Rattle.kt_rule.specs.declared.views.View.{View};
-ghost use Rattle.kt_steps.specs.Told.{DidNext, IsDueOn, IsEnded, IsMine};
+ghost use Rattle.kt_steps.specs.Told.{IsMine};
+ghost use Rattle.kt_loops.specs.Calls.{HasBegun, HasHeld, HasLeft, HasRetired, HasTaken, MayBegin, MayHold, MayRetire, RunsLoop};
+ghost use Rattle.kt_loops.specs.Operations.{DidOne, IsNextOn, MayFinish, finishes};
+ghost use Rattle.kt_loops.specs.Told.{IsExtent};
 ghost use Rattle.kt_words.specs.Words.{IsPost, IsStateWord, packed_state};
 ghost use Rattle.kt_words.specs.declared.layouts.TheConstants.{RECORDS};
 ghost use Rattle.kt_words.specs.declared.posts.Post.{Post};
@@ -25,11 +28,12 @@ ghost use Rattle.kt_posts.specs.declared.answers.Answer.TheVariants as A;
 
 use arrayvec::ArrayVec;
 use kt_law::Op;
+use kt_loops::{Begun, Taken};
 use kt_posts::{Answer, Lead};
 use kt_prog::{Call, PATH};
 use kt_ready::Scan;
 use kt_tasks::{Claim, Published};
-use kt_words::StateWord;
+use kt_words::{Pair, StateWord};
 
 /// A seat with its table. No call takes memory, and none waits.
 pub trait Run {
@@ -44,21 +48,21 @@ pub trait Run {
     fn workers(&self) -> u32
         ensures { (j : Setup) → (view self.now).setup ≡ Some j → result ≡ j.workers };
 
-    /// Loads an element for the running body.
+    /// Loads an element for the index that the seat runs, or else for the running body; as `store` and `fold` do.
     fn load(&mut self, element: u32) -> u64
         requires inside { IsElementOf (view self.old) element }
-        requires next { IsDueOn (view self.old) element Load }
-        ensures loaded { DidNext (view self.old) result (view self.new) };
+        requires next { IsNextOn (view self.old) element Load }
+        ensures loaded { DidOne (view self.old) result (view self.new) };
 
     fn store(&mut self, element: u32, value: u64)
         requires inside { IsElementOf (view self.old) element }
-        requires next { IsDueOn (view self.old) element (Store value) }
-        ensures stored { DidNext (view self.old) value (view self.new) };
+        requires next { IsNextOn (view self.old) element (Store value) }
+        ensures stored { DidOne (view self.old) value (view self.new) };
 
     fn fold(&mut self, element: u32, op: Op, value: u64)
         requires inside { IsElementOf (view self.old) element }
-        requires next { IsDueOn (view self.old) element (Fold op value) }
-        ensures folded { (found : _) × DidNext (view self.old) found (view self.new) };
+        requires next { IsNextOn (view self.old) element (Fold op value) }
+        ensures folded { (found : _) × DidOne (view self.old) found (view self.new) };
 
     /// Publishes the child that the running body, whose task lies in the record `parent`, forks next, in the record `at`.
     fn publish(&mut self, parent: u32, at: u32, frame: u64, fork: u32, child: &Call) -> Published
@@ -87,9 +91,47 @@ pub trait Run {
     /// Finishes the task of the running body.
     fn finish(&mut self, at: u32)
         requires inside { IsRecord (view self.old) at }
-        requires ended { IsEnded (view self.old) at }
+        requires ended { MayFinish (view self.old) at }
         ensures finished { (e : Execution) (rest : List Execution) → (view self.old).tasks.running ≡ e ∷ rest
-            → view self.new ≡ ends (view self.old) e rest };
+            → view self.new ≡ finishes (view self.old) e rest };
+
+    /// Begins the loop of the running body, whose zeroing is done: all its positions are the own interval.
+    fn begin_loop(&mut self, at: u32) -> Begun
+        requires crew { IsOfCrew (view self.old) }
+        requires inside { IsRecord (view self.old) at }
+        requires may { MayBegin (view self.old) at }
+        ensures begun { HasBegun (view self.old) at (view self.new) result };
+
+    /// Makes a piece in hand, of the loop in the record `at`, the own interval.
+    fn take_piece(&mut self, at: u32, piece: Pair)
+        requires crew { IsOfCrew (view self.old) }
+        requires inside { IsRecord (view self.old) at }
+        requires may { MayHold (view self.old) at piece }
+        ensures held { HasHeld (view self.old) at piece (view self.new) };
+
+    /// Takes at most `grain` positions from the front of the own interval: they are indexes in hand.
+    fn chunk(&mut self, grain: u32) -> Taken
+        requires crew { IsOfCrew (view self.old) }
+        requires some { 1 ≤ grain }
+        ensures taken { HasTaken (view self.old) grain (view self.new) result };
+
+    /// Retires the first `count` of the indexes in hand, of the loop in the record `at`: how many of the loop are left.
+    fn retire(&mut self, at: u32, count: u32) -> u32
+        requires inside { IsRecord (view self.old) at }
+        requires may { MayRetire (view self.old) at count }
+        ensures retired { HasRetired (view self.old) at count (view self.new) result };
+
+    /// How many indexes of the loop of the running body are left.
+    fn left(&mut self, at: u32) -> u32
+        requires inside { IsRecord (view self.old) at }
+        requires runs { RunsLoop (view self.old) at }
+        ensures left { HasLeft (view self.old) (view self.new) result };
+
+    /// The first position of a loop in hand.
+    fn first_of(&mut self, at: u32) -> u32
+        requires inside { IsRecord (view self.old) at }
+        ensures same { view self.new ≡ view self.old }
+        ensures first { (long : _) × IsExtent (view self.old) at long result };
 
     /// Looks at a record's state.
     fn stand(&mut self, at: u32) -> StateWord
@@ -151,12 +193,14 @@ pub trait Run {
         requires crew { IsOfCrew (view self.old) }
         requires busy { (view self.old).desk.free ≡ false }
         ensures looked { (o : Post) × IsPost o × Settled o (view self.old) (view self.new) result }
-        ensures inside { (at : _) → result ≡ A.Task at → IsRecord (view self.old) at };
+        ensures inside { (at : _) → result ≡ A.Task at → IsRecord (view self.old) at }
+        ensures piece_inside { (at : _) (piece : _) → result ≡ A.Piece at piece → IsRecord (view self.old) at };
 
     /// Takes the request back where nobody holds it, and else looks.
     fn withdraw(&mut self) -> Answer
         requires crew { IsOfCrew (view self.old) }
         requires busy { (view self.old).desk.free ≡ false }
         ensures withdrew { (o : Post) × IsPost o × Withdrew o (view self.old) (view self.new) result }
-        ensures inside { (at : _) → result ≡ A.Task at → IsRecord (view self.old) at };
+        ensures inside { (at : _) → result ≡ A.Task at → IsRecord (view self.old) at }
+        ensures piece_inside { (at : _) (piece : _) → result ≡ A.Piece at piece → IsRecord (view self.old) at };
 }

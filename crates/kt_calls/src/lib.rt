@@ -8,5 +8,6 @@
 mod calls;
 
 pub use calls::Run;
+pub use kt_loops::{Begun, Taken};
 pub use kt_posts::{Answer, Lead};
 pub use kt_tasks::{Claim, Published};

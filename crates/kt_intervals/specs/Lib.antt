@@ -1,0 +1,5 @@
+pub mod Programs
+pub mod Faults
+pub mod Indexes
+pub mod Chunks
+pub mod Drains
