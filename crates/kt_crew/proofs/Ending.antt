@@ -3,6 +3,7 @@ use Rattle.std.proofs.Common.{◌≡◌, ◌≢◌, ◌↔◌, ◌<◌, ◌&&◌
 use Rattle.std.specs.List.Sorted.{IsPermutation}
 use Rattle.std.proofs.lemmas.Bool.Decides.{nat_tests}
 use Rattle.kt_order.specs.Paths.{same_path}
+use Rattle.kt_prog.specs.Accepted.{IsAccepted}
 use Rattle.kt_prog.specs.Entries.{faults_of}
 use Rattle.kt_prog.specs.Outcome.{fault_or_rows, outcome_of}
 use Rattle.kt_prog.specs.Runs.{FaultRun}
@@ -22,22 +23,19 @@ use Rattle.kt_rule.specs.Lists.{one_if}
 use Rattle.kt_rule.specs.LoopFacts.{index_times}
 use Rattle.kt_rule.proofs.Puts.{same_self}
 use Rattle.kt_runs.specs.ByPath.{Path}
-use Rattle.kt_worker.specs.Faults.{least_of}
-use Rattle.kt_worker.specs.Programs.{IsRunnable}
 use Rattle.kt_pool.specs.declared.closing.Closed.{Closed}
 use Rattle.kt_pool.specs.Closing.{IsOfAll, IsReferenceRun, KnowsMain, Limits, SomeSeat}
 use Rattle.kt_pool.specs.Exact.{IsExact, done_entries, name_of, named_so, pair_times, reference_of}
 use Rattle.kt_crew.specs.declared.jobs.Done.{Done}
 use Rattle.kt_crew.specs.Crews.{AreDone, seats_back}
 use Rattle.kt_crew.specs.Ends.{comes_to, first_with}
-use Rattle.kt_crew.proofs.Leasts.{first_of_all, met_by, one_at_each, ran_by, same_faults}
-use Rattle.kt_crew.proofs.Loopless.{no_indexes}
-use Rattle.kt_crew.proofs.Together.{each_done, ran_back}
+use Rattle.kt_crew.proofs.Leasts.{first_of_all, met_by, one_at_each, ran_by, retired_by, same_faults}
+use Rattle.kt_crew.proofs.Together.{each_done, ran_back, retired_back}
 
 -- the close of a run whose workers have all come to their end
 pub record IsClosed (j : Setup) (t : RunTable) (p : Program) (done : List Done) (c : Closed) (v : View) : Type 0 where
   pub program : j.program ≡ p
-  pub runnable : IsRunnable p
+  pub accepted : IsAccepted p
   pub some : 0 < j.workers
   pub done_all : AreDone j t p done
   pub lists : IsOfAll v (seats_back done)
@@ -45,31 +43,17 @@ pub record IsClosed (j : Setup) (t : RunTable) (p : Program) (done : List Done) 
   pub whole : SomeSeat KnowsMain (seats_back done) → IsReferenceRun j c v
 
 pub closed_so : (j : Setup) (t : RunTable) (p : Program) (done : List Done) (seats : List Seat) (c : Closed) (v : View) → seats ≡ seats_back done
-    → j.program ≡ p → IsRunnable p → 0 < j.workers → AreDone j t p done → IsOfAll v seats → Limits j c seats
+    → j.program ≡ p → IsAccepted p → 0 < j.workers → AreDone j t p done → IsOfAll v seats → Limits j c seats
     → (SomeSeat KnowsMain seats → IsReferenceRun j c v) → IsClosed j t p done c v
-closed_so j t p done seats c v is program runnable some all lists limits whole = record {
+closed_so j t p done seats c v is program accepted some all lists limits whole = record {
   program = program;
-  runnable = runnable;
+  accepted = accepted;
   some = some;
   done_all = all;
   lists = subst (IsOfAll v) is lists;
   limits = subst (Limits j c) is limits;
   whole = λ k. whole (subst (SomeSeat KnowsMain) (sym is) k);
 }
-
-no_pairs : (pairs : List (Path × ℕ)) → map named_so pairs ≡ [] → pairs ≡ []
-no_pairs [] e = refl
-no_pairs (x ∷ pairs) e = absurd (cc e)
-
-no_runs : (es : List IndexRun) → ((p : Path) (i : ℕ) → index_times p i es ≡ 0) → es ≡ []
-no_runs [] h = refl
-no_runs (e ∷ es) h =
-    let one : one_if (same_path e.spot.path e.spot.path && nat_eq e.index e.index) ≡ 1 =
-    ap (λ (b : Bool). one_if (b && nat_eq e.index e.index)) (same_self e.spot.path) ∙ ap one_if (nat_same e.index) in
-    let none = h e.spot.path e.index in absurd (omega arith)
-  where
-    nat_same : (n : ℕ) → nat_eq n n ≡ true
-    nat_same n = grind (arith, nat_tests)
 
 module _ (earlier_law : EarlierIsFirst) (first_law : FirstIsAnswer) (j : Setup) (t : RunTable) (p : Program) (done : List Done) (c : Closed) (v : View)
     (h : IsClosed j t p done c v) where
@@ -93,26 +77,20 @@ module _ (earlier_law : EarlierIsFirst) (first_law : FirstIsAnswer) (j : Setup) 
   ran_is : v.tasks.ran ≡ ran_by done
   ran_is = h.lists.ran ∙ ran_back done
 
-  -- the program declares no loop, so the reference run has no index, and none was retired
-  none_retired : IsExact j v → v.loops.retired ≡ []
-  none_retired exact =
-      let runnable = subst IsRunnable (sym h.program) h.runnable in
-      let none = no_pairs exact.indexes.pairs (sym exact.indexes.named ∙ ap (map name_of) (no_indexes j.program runnable.accepted runnable.no_loop j.input)) in
-      no_runs v.loops.retired (λ q i. exact.indexes.retired q i ∙ ap (pair_times q i) none)
-
-  ran_alone : IsExact j v → done_entries j v ≡ map (run_entry j) v.tasks.ran
-  ran_alone exact = ap (λ es. map (run_entry j) v.tasks.ran ++ map (index_entry j) es) (none_retired exact) ∙ append-nil (map (run_entry j) v.tasks.ran)
+  retired_is : v.loops.retired ≡ retired_by done
+  retired_is = h.lists.retired ∙ retired_back done
 
   -- then the least fault is the answer's
   least_is : (r : IsReferenceRun j c v) → fault_or_rows c.rows.items (faults_of j.program (reference_of j).entries)
       ≡ fault_else_rows c.rows.items (first_with None done)
   least_is r =
-      first_law (first_with None done) (met_by j.program done) (faults_of j.program (reference_of j).entries)
-      (first_of_all earlier_law j.program done None [] refl
-      (λ d i. let e = each_done j t p done h.done_all d i in subst (λ (q : Program). d.fault ≡ least_of q d.seat.token.me.0.tasks.ran) (sym h.program) e.1.ends.fault))
-      (one_at_each j.program done v.tasks.ran ran_is (λ q. let a = r.exact.tasks.ran q in let b = r.exact.tasks.once q in omega arith))
-      (same_faults j done v.tasks.ran (faults_of j.program (reference_of j).entries) ran_is
-      (subst (λ es. IsPermutation (faults_of j.program (reference_of j).entries) (faults_of j.program es)) (ran_alone r.exact) r.faults))
+      first_law (first_with None done) (met_by j done) (faults_of j.program (reference_of j).entries)
+      (first_of_all earlier_law j done None [] refl
+      (λ d i. let e = each_done j t p done h.done_all d i in e.1.ends.fault j e.1.seat.told))
+      (one_at_each j done v.tasks.ran v.loops.retired ran_is retired_is
+      (λ q. let a = r.exact.tasks.ran q in let b = r.exact.tasks.once q in omega arith)
+      (λ q i. let a = r.exact.indexes.retired q i in let b = r.exact.indexes.once q i in omega arith))
+      (same_faults j done v.tasks.ran v.loops.retired (faults_of j.program (reference_of j).entries) ran_is retired_is r.faults)
       c.rows.items
 
   abbrev answer : Bool → Ran

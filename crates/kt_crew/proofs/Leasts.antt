@@ -1,66 +1,53 @@
 -- The faults that workers met, and the least of them.
-use Rattle.std.proofs.Common.{◌≡◌, ◌<◌, ◌≤◌, ℕ, zero, suc, List, [], ◌∷◌, ◌++◌, map, length, Option, Some, None, ◌⊎◌, inl, inr, append_assoc, slice_index_or, refl, sym, ap, ◌∙◌, subst, arith}
+use Rattle.std.proofs.Common.{◌≡◌, ◌<◌, ◌≤◌, ◌&&◌, nat_eq, ℕ, zero, suc, true, List, [], ◌∷◌, ◌++◌, map, length, Option, Some, None, ◌⊎◌, inl, inr, append_assoc, slice_index_or, refl, sym, ap, ◌∙◌, subst, arith}
 use Rattle.std.specs.List.{flat_map}
 use Rattle.std.specs.List.Sorted.{IsPermutation}
+use Rattle.std.proofs.lemmas.Bool.Decides.{nat_tests}
 use Rattle.std.proofs.lemmas.List.Sorted.{All-permutation, IsPermutation-sym}
-use Rattle.kt_prog.specs.Entries.{faults_of}
-use Rattle.kt_prog.specs.Entries as entries
+use Rattle.kt_order.specs.Paths.{same_path}
+use Rattle.kt_order.specs.Sequential.{Entry}
+use Rattle.kt_prog.specs.Calls.{index_of}
+use Rattle.kt_prog.specs.Entries.{faults_of, fault_in}
+use Rattle.kt_prog.specs.Reference.{Placed, machine_of}
 use Rattle.kt_prog.specs.Runs.{FaultRun}
 use Rattle.kt_prog.specs.Script.{Fault}
-use Rattle.kt_prog.specs.Calls.{CallTree}
-use Rattle.kt_prog.specs.declared.programs.Program.{Program}
 use Rattle.kt_faults.specs.First.{earlier, IsAmong, IsFirst, AtMostOne, AreSame}
 use Rattle.kt_faults.specs.Laws.{EarlierIsFirst}
-use Rattle.kt_faults.proofs.Order.{irreflexive}
 use Rattle.kt_runs.specs.ByPath.{Path}
-use Rattle.kt_runs.specs.Theorems.{whole_at}
 use Rattle.kt_rule.specs.declared.views.Setup.{Setup}
 use Rattle.kt_rule.specs.declared.views.Execution.{Execution}
-use Rattle.kt_rule.specs.Close.{run_entry}
-use Rattle.kt_rule.specs.Lists.{times, In, here, there}
+use Rattle.kt_rule.specs.declared.views.IndexRun.{IndexRun}
+use Rattle.kt_rule.specs.declared.views.View.{View}
+use Rattle.kt_rule.specs.Close.{run_entry, index_entry}
+use Rattle.kt_rule.specs.Lists.{times, weigh, one_if, In, here, there}
+use Rattle.kt_rule.specs.LoopFacts.{index_times}
 use Rattle.kt_rule.specs.Views.{path_of}
+use Rattle.kt_rule.proofs.Puts.{same_self}
 use Rattle.kt_rule.proofs.Sums.{one_self}
-use Rattle.kt_worker.specs.Faults.{fault_at, fault_in, least_of}
+use Rattle.kt_intervals.specs.Faults.{task_faults, index_faults, faults_met}
 use Rattle.kt_crew.specs.declared.jobs.Done.{Done}
 use Rattle.kt_crew.specs.Ends.{first_with}
 
--- a fault that there may be, as a list
-abbrev pub listed : Option FaultRun → List FaultRun
-listed None = []
-listed (Some f) = f ∷ []
-
--- the faults of a worker's tasks, the last finished last
-abbrev pub met : Program → List Execution → List FaultRun
-met p [] = []
-met p (e ∷ ran) = met p ran ++ listed (fault_in p e)
+the_some : {X : Type 0} → {x y : X} → Some x ≡ Some y → x ≡ y
+the_some h = cc
 
 -- those of all workers
-abbrev pub met_by : Program → List Done → List FaultRun
-met_by p [] = []
-met_by p (d ∷ done) = met p d.seat.token.me.0.tasks.ran ++ met_by p done
+abbrev pub met_by : Setup → List Done → List FaultRun
+met_by j [] = []
+met_by j (d ∷ done) = faults_met j d.seat.token.me.0 ++ met_by j done
 
-first_listed : (path : Path) (o : Option Fault) → IsFirst (fault_at path o) (listed (fault_at path o))
-first_listed path None = refl
-first_listed path (Some f) = (inl refl, (rw (irreflexive (map suc path)) refl, tt))
-
--- each worker kept the least fault of its own
-pub least_is_first : EarlierIsFirst → (p : Program) (ran : List Execution) → IsFirst (least_of p ran) (met p ran)
-least_is_first law p [] = refl
-least_is_first law p (e ∷ ran) = law (least_of p ran) (fault_in p e) (met p ran) (listed (fault_in p e)) (least_is_first law p ran) (first_listed e.spot.path _)
-
--- so the first of these is that of all
-pub first_of_all : EarlierIsFirst → (p : Program) (done : List Done) (least : Option FaultRun) (fs : List FaultRun) → IsFirst least fs
-    → ((d : Done) → In d done → d.fault ≡ least_of p d.seat.token.me.0.tasks.ran) → IsFirst (first_with least done) (fs ++ met_by p done)
-first_of_all law p [] least fs first each = subst (IsFirst least) (sym (append_nothing fs)) first
+-- each worker kept the least fault of its own, so the first of these is that of all
+pub first_of_all : EarlierIsFirst → (j : Setup) (done : List Done) (least : Option FaultRun) (fs : List FaultRun) → IsFirst least fs
+    → ((d : Done) → In d done → IsFirst d.fault (faults_met j d.seat.token.me.0)) → IsFirst (first_with least done) (fs ++ met_by j done)
+first_of_all law j [] least fs first each = subst (IsFirst least) (sym (append_nothing fs)) first
   where
     append_nothing : (xs : List FaultRun) → xs ++ [] ≡ xs
     append_nothing [] = refl
     append_nothing (x ∷ xs) = ap (λ zs. x ∷ zs) (append_nothing xs)
-first_of_all law p (d ∷ done) least fs first each =
-    let own = subst (λ o. IsFirst o (met p d.seat.token.me.0.tasks.ran)) (sym (each d here)) (least_is_first law p d.seat.token.me.0.tasks.ran) in
-    subst (IsFirst (first_with (earlier least d.fault) done)) (append_assoc fs (met p d.seat.token.me.0.tasks.ran) (met_by p done))
-    (first_of_all law p done (earlier least d.fault) (fs ++ met p d.seat.token.me.0.tasks.ran)
-    (law least d.fault fs (met p d.seat.token.me.0.tasks.ran) first own) (λ x i. each x (there i)))
+first_of_all law j (d ∷ done) least fs first each =
+    let own = faults_met j d.seat.token.me.0 in
+    subst (IsFirst (first_with (earlier least d.fault) done)) (append_assoc fs own (met_by j done))
+    (first_of_all law j done (earlier least d.fault) (fs ++ own) (law least d.fault fs own first (each d here)) (λ x i. each x (there i)))
 
 -- MEMBERS
 
@@ -92,68 +79,95 @@ in_either x [] ys i = inr i
 in_either x (z ∷ xs) ys here = inl here
 in_either x (z ∷ xs) ys (there i) = elim (in_either x xs ys i) [ inl a ↦ inl (there a) | inr b ↦ inr b ]
 
-among_listed : (f : FaultRun) (o : Option FaultRun) → IsAmong f (listed o) → o ≡ Some f
-among_listed f None h = absurd h
-among_listed f (Some g) (inl e) = ap Some (sym e)
-among_listed f (Some g) (inr h) = absurd h
+in_map : {A B : Type 0} (f : A → B) (x : A) (xs : List A) → In x xs → In (f x) (map f xs)
+in_map f x [] i = elim i [ ]
+in_map f x (z ∷ xs) here = here
+in_map f x (z ∷ xs) (there i) = there (in_map f x xs i)
 
-listed_among : (f : FaultRun) (o : Option FaultRun) → o ≡ Some f → IsAmong f (listed o)
-listed_among f o e = subst (λ z. IsAmong f (listed z)) (sym e) (inl refl)
+of_map : {A B : Type 0} (f : A → B) (y : B) (xs : List A) → In y (map f xs) → (x : A) × In x xs × (y ≡ f x)
+of_map f y [] i = elim i [ ]
+of_map f y (z ∷ xs) here = (z, here, refl)
+of_map f y (z ∷ xs) (there i) = let r = of_map f y xs i in (r.0, there r.1, r.2)
 
--- one of these tasks met it
-abbrev pub IsMet : Program → List Execution → FaultRun → Type 0
-IsMet p ran f = (e : Execution) × In e ran × (fault_in p e ≡ Some f)
+-- THE FAULTS OF ENTRIES
 
-among_met : (p : Program) (ran : List Execution) (f : FaultRun) → IsAmong f (met p ran) → IsMet p ran f
-among_met p [] f h = absurd h
-among_met p (e ∷ ran) f h = elim (among_either f (met p ran) (listed (fault_in p e)) h) [
-  | inl a ↦ (let r = among_met p ran f a in (r.0, there r.1, r.2))
-  | inr b ↦ (e, here, among_listed f (fault_in p e) b)
+abbrev Entries : Setup → Type 0
+Entries j = List (Entry (machine_of j.program))
+
+-- one of these entries met it
+abbrev IsMetIn : (j : Setup) → FaultRun → Entries j → Type 0
+IsMetIn j f es = (e : Entry (machine_of j.program)) × In e es × IsAmong f (fault_in e.call e.fault)
+
+met_in : (j : Setup) (f : FaultRun) (es : Entries j) → IsAmong f (faults_of j.program es) → IsMetIn j f es
+met_in j f [] h = absurd h
+met_in j f (e ∷ es) h = elim (among_either f (fault_in e.call e.fault) (faults_of j.program es) h) [
+  | inl a ↦ (e, here, a)
+  | inr b ↦ (let r = met_in j f es b in (r.0, there r.1, r.2))
 ]
 
-met_among : (p : Program) (ran : List Execution) (f : FaultRun) (e : Execution) → In e ran → fault_in p e ≡ Some f → IsAmong f (met p ran)
-met_among p [] f e i h = elim i [ ]
-met_among p (x ∷ ran) f e here h = among_right f (met p ran) (listed (fault_in p e)) (listed_among f (fault_in p e) h)
-met_among p (x ∷ ran) f e (there i) h = among_left f (met p ran) (listed (fault_in p x)) (met_among p ran f e i h)
+among_met : (j : Setup) (f : FaultRun) (es : Entries j) (e : Entry (machine_of j.program)) → In e es → IsAmong f (fault_in e.call e.fault)
+    → IsAmong f (faults_of j.program es)
+among_met j f [] e i h = elim i [ ]
+among_met j f (x ∷ es) e here h = among_left f (fault_in e.call e.fault) (faults_of j.program es) h
+among_met j f (x ∷ es) e (there i) h = among_right f (fault_in x.call x.fault) (faults_of j.program es) (among_met j f es e i h)
+
+-- WHAT ALL WORKERS RAN
 
 abbrev pub ran_by : List Done → List Execution
 ran_by = flat_map (λ (d : Done). d.seat.token.me.0.tasks.ran)
 
-among_met_by : (p : Program) (done : List Done) (f : FaultRun) → IsAmong f (met_by p done) → IsMet p (ran_by done) f
-among_met_by p [] f h = absurd h
-among_met_by p (d ∷ done) f h = elim (among_either f (met p d.seat.token.me.0.tasks.ran) (met_by p done) h) [
-  | inl a ↦ (let r = among_met p d.seat.token.me.0.tasks.ran f a in (r.0, in_left r.0 d.seat.token.me.0.tasks.ran (ran_by done) r.1, r.2))
-  | inr b ↦ (let r = among_met_by p done f b in (r.0, in_right r.0 d.seat.token.me.0.tasks.ran (ran_by done) r.1, r.2))
+abbrev pub retired_by : List Done → List IndexRun
+retired_by = flat_map (λ (d : Done). d.seat.token.me.0.loops.retired)
+
+-- one of the tasks met it, or one of the indexes did
+abbrev IsMet : (j : Setup) → FaultRun → List Execution → List IndexRun → Type 0
+IsMet j f ran retired = ((e : Execution) × In e ran × IsAmong f (fault_in (run_entry j e).call (run_entry j e).fault))
+    ⊎ ((e : IndexRun) × In e retired × IsAmong f (fault_in (index_entry j e).call (index_entry j e).fault))
+
+met_by_one : (j : Setup) (f : FaultRun) (ran : List Execution) (retired : List IndexRun) → IsAmong f (task_faults j ran ++ index_faults j retired)
+    → IsMet j f ran retired
+met_by_one j f ran retired h = elim (among_either f (task_faults j ran) (index_faults j retired) h) [
+  | inl a ↦ (let r = met_in j f (map (run_entry j) ran) a in let o = of_map (run_entry j) r.0 ran r.1 in
+      inl (o.0, o.1, subst (λ (x : Entry (machine_of j.program)). IsAmong f (fault_in x.call x.fault)) o.2 r.2))
+  | inr b ↦ (let r = met_in j f (map (index_entry j) retired) b in let o = of_map (index_entry j) r.0 retired r.1 in
+      inr (o.0, o.1, subst (λ (x : Entry (machine_of j.program)). IsAmong f (fault_in x.call x.fault)) o.2 r.2))
 ]
 
-met_by_among : (p : Program) (done : List Done) (f : FaultRun) (e : Execution) → In e (ran_by done) → fault_in p e ≡ Some f → IsAmong f (met_by p done)
-met_by_among p [] f e i h = elim i [ ]
-met_by_among p (d ∷ done) f e i h = elim (in_either e d.seat.token.me.0.tasks.ran (ran_by done) i) [
-  | inl a ↦ among_left f (met p d.seat.token.me.0.tasks.ran) (met_by p done) (met_among p d.seat.token.me.0.tasks.ran f e a h)
-  | inr b ↦ among_right f (met p d.seat.token.me.0.tasks.ran) (met_by p done) (met_by_among p done f e b h)
+one_met : (j : Setup) (f : FaultRun) (ran : List Execution) (retired : List IndexRun) → IsMet j f ran retired
+    → IsAmong f (task_faults j ran ++ index_faults j retired)
+one_met j f ran retired (inl (e, i, h)) = among_left f (task_faults j ran) (index_faults j retired)
+    (among_met j f (map (run_entry j) ran) (run_entry j e) (in_map (run_entry j) e ran i) h)
+one_met j f ran retired (inr (e, i, h)) = among_right f (task_faults j ran) (index_faults j retired)
+    (among_met j f (map (index_entry j) retired) (index_entry j e) (in_map (index_entry j) e retired i) h)
+
+among_met_by : (j : Setup) (done : List Done) (f : FaultRun) → IsAmong f (met_by j done) → IsMet j f (ran_by done) (retired_by done)
+among_met_by j [] f h = absurd h
+among_met_by j (d ∷ done) f h = elim (among_either f (faults_met j d.seat.token.me.0) (met_by j done) h) [
+  | inl a ↦ widen (met_by_one j f d.seat.token.me.0.tasks.ran d.seat.token.me.0.loops.retired a)
+  | inr b ↦ behind (among_met_by j done f b)
 ]
+  where
+    widen : IsMet j f d.seat.token.me.0.tasks.ran d.seat.token.me.0.loops.retired → IsMet j f (ran_by (d ∷ done)) (retired_by (d ∷ done))
+    widen (inl (e, i, k)) = inl (e, in_left e d.seat.token.me.0.tasks.ran (ran_by done) i, k)
+    widen (inr (e, i, k)) = inr (e, in_left e d.seat.token.me.0.loops.retired (retired_by done) i, k)
 
--- THE FAULTS OF ENTRIES
+    behind : IsMet j f (ran_by done) (retired_by done) → IsMet j f (ran_by (d ∷ done)) (retired_by (d ∷ done))
+    behind (inl (e, i, k)) = inl (e, in_right e d.seat.token.me.0.tasks.ran (ran_by done) i, k)
+    behind (inr (e, i, k)) = inr (e, in_right e d.seat.token.me.0.loops.retired (retired_by done) i, k)
 
-as_listed : (path : Path) (call : CallTree) (o : Option Fault) → entries.fault_in (whole_at (map suc path) call) o ≡ listed (fault_at path o)
-as_listed path call None = refl
-as_listed path call (Some f) = refl
-
-among_entries : (j : Setup) (ran : List Execution) (f : FaultRun) → IsAmong f (faults_of j.program (map (run_entry j) ran)) → IsMet j.program ran f
-among_entries j [] f h = absurd h
-among_entries j (e ∷ ran) f h =
-    elim (among_either f (entries.fault_in (run_entry j e).call (run_entry j e).fault) (faults_of j.program (map (run_entry j) ran)) h) [
-      | inl a ↦ (e, here, among_listed f (fault_in j.program e) (subst (IsAmong f) (as_listed e.spot.path e.spot.berth.call (run_entry j e).fault) a))
-      | inr b ↦ (let r = among_entries j ran f b in (r.0, there r.1, r.2))
-    ]
-
-entries_among : (j : Setup) (ran : List Execution) (f : FaultRun) (e : Execution) → In e ran → fault_in j.program e ≡ Some f
-    → IsAmong f (faults_of j.program (map (run_entry j) ran))
-entries_among j [] f e i h = elim i [ ]
-entries_among j (x ∷ ran) f e here h = among_left f (entries.fault_in (run_entry j e).call (run_entry j e).fault) (faults_of j.program (map (run_entry j) ran))
-    (subst (IsAmong f) (sym (as_listed e.spot.path e.spot.berth.call (run_entry j e).fault)) (listed_among f (fault_in j.program e) h))
-entries_among j (x ∷ ran) f e (there i) h = among_right f (entries.fault_in (run_entry j x).call (run_entry j x).fault)
-    (faults_of j.program (map (run_entry j) ran)) (entries_among j ran f e i h)
+met_by_among : (j : Setup) (done : List Done) (f : FaultRun) → IsMet j f (ran_by done) (retired_by done) → IsAmong f (met_by j done)
+met_by_among j [] f (inl (e, i, k)) = elim i [ ]
+met_by_among j [] f (inr (e, i, k)) = elim i [ ]
+met_by_among j (d ∷ done) f (inl (e, i, k)) = elim (in_either e d.seat.token.me.0.tasks.ran (ran_by done) i) [
+  | inl a ↦ among_left f (faults_met j d.seat.token.me.0) (met_by j done)
+      (one_met j f d.seat.token.me.0.tasks.ran d.seat.token.me.0.loops.retired (inl (e, a, k)))
+  | inr b ↦ among_right f (faults_met j d.seat.token.me.0) (met_by j done) (met_by_among j done f (inl (e, b, k)))
+]
+met_by_among j (d ∷ done) f (inr (e, i, k)) = elim (in_either e d.seat.token.me.0.loops.retired (retired_by done) i) [
+  | inl a ↦ among_left f (faults_met j d.seat.token.me.0) (met_by j done)
+      (one_met j f d.seat.token.me.0.tasks.ran d.seat.token.me.0.loops.retired (inr (e, a, k)))
+  | inr b ↦ among_right f (faults_met j d.seat.token.me.0) (met_by j done) (met_by_among j done f (inr (e, b, k)))
+]
 
 -- LISTS OF THE SAME FAULTS
 
@@ -172,19 +186,38 @@ among_permuted : (xs ys : List FaultRun) → IsPermutation xs ys → (f : FaultR
 among_permuted xs ys same = all_among (λ g. IsAmong g ys) xs
     (All-permutation (λ g. IsAmong g ys) ys xs (IsPermutation-sym xs ys same) (at_among ys))
 
+-- the faults of two lists of entries are those of both
+split_faults : (j : Setup) (f : FaultRun) (xs ys : Entries j) → IsAmong f (faults_of j.program (xs ++ ys))
+    → IsAmong f (faults_of j.program xs ++ faults_of j.program ys)
+split_faults j f xs ys h = let r = met_in j f (xs ++ ys) h in elim (in_either r.0 xs ys r.1) [
+  | inl a ↦ among_left f (faults_of j.program xs) (faults_of j.program ys) (among_met j f xs r.0 a r.2)
+  | inr b ↦ among_right f (faults_of j.program xs) (faults_of j.program ys) (among_met j f ys r.0 b r.2)
+]
+
+joined_faults : (j : Setup) (f : FaultRun) (xs ys : Entries j) → IsAmong f (faults_of j.program xs ++ faults_of j.program ys)
+    → IsAmong f (faults_of j.program (xs ++ ys))
+joined_faults j f xs ys h = elim (among_either f (faults_of j.program xs) (faults_of j.program ys) h) [
+  | inl a ↦ (let r = met_in j f xs a in among_met j f (xs ++ ys) r.0 (in_left r.0 xs ys r.1) r.2)
+  | inr b ↦ (let r = met_in j f ys b in among_met j f (xs ++ ys) r.0 (in_right r.0 xs ys r.1) r.2)
+]
+
+abbrev faults_in : Setup → List Execution → List IndexRun → List FaultRun
+faults_in j ran retired = faults_of j.program (map (run_entry j) ran ++ map (index_entry j) retired)
+
 -- what the workers met is what the reference run meets
-pub same_faults : (j : Setup) (done : List Done) (ran : List Execution) (faults : List FaultRun) → ran ≡ ran_by done
-    → IsPermutation faults (faults_of j.program (map (run_entry j) ran)) → AreSame (met_by j.program done) faults
-same_faults j done ran faults is same f = (
-  (λ i. let r = among_met_by j.program done f i in
-      among_permuted (faults_of j.program (map (run_entry j) ran)) faults
-      (IsPermutation-sym faults (faults_of j.program (map (run_entry j) ran)) same) f
-      (entries_among j ran f r.0 (subst (In r.0) (sym is) r.1) r.2)),
-  (λ i. let r = among_entries j ran f (among_permuted faults (faults_of j.program (map (run_entry j) ran)) same f i) in
-      met_by_among j.program done f r.0 (subst (In r.0) is r.1) r.2),
+pub same_faults : (j : Setup) (done : List Done) (ran : List Execution) (retired : List IndexRun) (faults : List FaultRun)
+    → ran ≡ ran_by done → retired ≡ retired_by done
+    → IsPermutation faults (faults_of j.program (map (run_entry j) ran ++ map (index_entry j) retired)) → AreSame (met_by j done) faults
+same_faults j done ran retired faults tasks indexes same f = (
+  (λ i. among_permuted (faults_in j ran retired) faults (IsPermutation-sym faults (faults_in j ran retired) same) f
+      (joined_faults j f (map (run_entry j) ran) (map (index_entry j) retired)
+      (one_met j f ran retired (subst (λ es. IsMet j f es retired) (sym tasks)
+      (subst (λ es. IsMet j f (ran_by done) es) (sym indexes) (among_met_by j done f i)))))),
+  (λ i. met_by_among j done f (subst (λ es. IsMet j f es (retired_by done)) tasks (subst (λ es. IsMet j f ran es) indexes
+      (met_by_one j f ran retired (split_faults j f (map (run_entry j) ran) (map (index_entry j) retired) (among_permuted faults (faults_in j ran retired) same f i)))))),
 )
 
--- ONE AT EACH PATH
+-- ONE AT EACH PATH AND INDEX
 
 some_there : (p : Path) (es : List Execution) (e : Execution) → In e es → path_of e ≡ p → 0 < times p (map path_of es)
 some_there p [] e i h = elim i [ ]
@@ -200,6 +233,30 @@ once_in p (x ∷ es) few e f (there i) here g h =
     let a = one_self p (path_of f) h in let b = some_there p es e i g in absurd (omega arith)
 once_in p (x ∷ es) few e f (there i) (there k) g h = once_in p es (omega arith) e f i k g h
 
+-- an index stands where it is counted
+self_counts : (p : Path) (i : ℕ) (e : IndexRun) → e.spot.path ≡ p → e.index ≡ i → one_if (same_path p e.spot.path && nat_eq i e.index) ≡ 1
+self_counts p i e path index =
+    ap (λ (q : Path). one_if (same_path p q && nat_eq i e.index)) path ∙ (ap (λ b. one_if (b && nat_eq i e.index)) (same_self p)
+    ∙ (ap (λ (n : ℕ). one_if (nat_eq i n)) index ∙ ap one_if (nat_same i)))
+  where
+    nat_same : (n : ℕ) → nat_eq n n ≡ true
+    nat_same n = grind (arith, nat_tests)
+
+index_there : (p : Path) (i : ℕ) (es : List IndexRun) (e : IndexRun) → In e es → e.spot.path ≡ p → e.index ≡ i → 0 < index_times p i es
+index_there p i [] e is path index = elim is [ ]
+index_there p i (x ∷ es) e here path index = let a = self_counts p i e path index in omega arith
+index_there p i (x ∷ es) e (there is) path index = let a = index_there p i es e is path index in omega arith
+
+index_once : (p : Path) (i : ℕ) (es : List IndexRun) → index_times p i es ≤ 1 → (e f : IndexRun) → In e es → In f es
+    → e.spot.path ≡ p → e.index ≡ i → f.spot.path ≡ p → f.index ≡ i → e ≡ f
+index_once p i [] few e f is ks a b c d = elim is [ ]
+index_once p i (x ∷ es) few e f here here a b c d = refl
+index_once p i (x ∷ es) few e f here (there ks) a b c d =
+    let n = self_counts p i e a b in let m = index_there p i es f ks c d in absurd (omega arith)
+index_once p i (x ∷ es) few e f (there is) here a b c d =
+    let n = self_counts p i f c d in let m = index_there p i es e is a b in absurd (omega arith)
+index_once p i (x ∷ es) few e f (there is) (there ks) a b c d = index_once p i es (omega arith) e f is ks a b c d
+
 suc_is : (m n : ℕ) → suc m ≡ suc n → m ≡ n
 suc_is m n e = omega arith
 
@@ -212,21 +269,44 @@ paths_are (x ∷ p) (y ∷ q) e = let h = parts e in λ i. suc_is x y h.0 i ∷ 
     parts : {a b : ℕ} → {xs ys : List ℕ} → a ∷ xs ≡ b ∷ ys → (a ≡ b) × (xs ≡ ys)
     parts h = (cc, cc)
 
-path_there : (path : Path) (o : Option Fault) (f : FaultRun) → fault_at path o ≡ Some f → f.path ≡ map suc path
-path_there path None f e = absurd (cc e)
-path_there path (Some g) f e = ap (λ (z : FaultRun). z.path) (the_some (sym e))
-  where
-    the_some : {X : Type 0} → {x y : X} → Some x ≡ Some y → x ≡ y
-    the_some h = cc
+-- where a fault is met, and that there is one at most
+fault_there : (c : Placed) (o : Option Fault) (f : FaultRun) → IsAmong f (fault_in c o) → (f.path ≡ c.path) × (f.index ≡ index_of c.job)
+fault_there c None f h = absurd h
+fault_there c (Some g) f (inl e) = (ap (λ (z : FaultRun). z.path) e, ap (λ (z : FaultRun). z.index) e)
+fault_there c (Some g) f (inr h) = absurd h
 
-pub one_at_each : (p : Program) (done : List Done) (ran : List Execution) → ran ≡ ran_by done → ((q : Path) → times q (map path_of ran) ≤ 1)
-    → AtMostOne (met_by p done)
-one_at_each p done ran is once f g i k paths indexes =
-    let a = among_met_by p done f i in let b = among_met_by p done g k in
-    let same = paths_are a.0.spot.path b.0.spot.path
-    (sym (path_there a.0.spot.path _ f a.2) ∙ (paths ∙ path_there b.0.spot.path _ g b.2)) in
-    let one = once_in b.0.spot.path ran (once b.0.spot.path) a.0 b.0 (subst (In a.0) (sym is) a.1) (subst (In b.0) (sym is) b.1) same refl in
-    the_some (sym a.2 ∙ (ap (fault_in p) one ∙ b.2))
+one_fault : (c : Placed) (o : Option Fault) (f g : FaultRun) → IsAmong f (fault_in c o) → IsAmong g (fault_in c o) → f ≡ g
+one_fault c None f g h k = absurd h
+one_fault c (Some x) f g (inl e) (inl d) = e ∙ sym d
+one_fault c (Some x) f g (inl e) (inr k) = absurd k
+one_fault c (Some x) f g (inr h) k = absurd h
+
+no_index : {o : Option ℕ} {n : ℕ} → o ≡ None → o ≡ Some n → ⊥
+no_index h k = cc
+
+pub one_at_each : (j : Setup) (done : List Done) (ran : List Execution) (retired : List IndexRun) → ran ≡ ran_by done → retired ≡ retired_by done
+    → ((q : Path) → times q (map path_of ran) ≤ 1) → ((q : Path) (i : ℕ) → index_times q i retired ≤ 1) → AtMostOne (met_by j done)
+one_at_each j done ran retired tasks indexes once each f g i k paths same =
+    one (among_met_by j done f i) (among_met_by j done g k)
   where
-    the_some : {X : Type 0} → {x y : X} → Some x ≡ Some y → x ≡ y
-    the_some h = cc
+    one : IsMet j f (ran_by done) (retired_by done) → IsMet j g (ran_by done) (retired_by done) → f ≡ g
+    one (inl (e, a, h)) (inl (d, b, l)) =
+        let x = fault_there (run_entry j e).call (run_entry j e).fault f h in let y = fault_there (run_entry j d).call (run_entry j d).fault g l in
+        let at = paths_are e.spot.path d.spot.path (sym x.0 ∙ (paths ∙ y.0)) in
+        let is = once_in d.spot.path ran (once d.spot.path) e d (subst (In e) (sym tasks) a) (subst (In d) (sym tasks) b) at refl in
+        one_fault (run_entry j d).call (run_entry j d).fault f g
+        (subst (λ (z : Execution). IsAmong f (fault_in (run_entry j z).call (run_entry j z).fault)) is h) l
+    one (inl (e, a, h)) (inr (d, b, l)) =
+        let x = fault_there (run_entry j e).call (run_entry j e).fault f h in let y = fault_there (index_entry j d).call (index_entry j d).fault g l in
+        absurd (no_index x.1 (same ∙ y.1))
+    one (inr (e, a, h)) (inl (d, b, l)) =
+        let x = fault_there (index_entry j e).call (index_entry j e).fault f h in let y = fault_there (run_entry j d).call (run_entry j d).fault g l in
+        absurd (no_index (same ∙ y.1) x.1)
+    one (inr (e, a, h)) (inr (d, b, l)) =
+        let x = fault_there (index_entry j e).call (index_entry j e).fault f h in let y = fault_there (index_entry j d).call (index_entry j d).fault g l in
+        let at = paths_are e.spot.path d.spot.path (sym x.0 ∙ (paths ∙ y.0)) in
+        let number = the_some (sym x.1 ∙ (same ∙ y.1)) in
+        let is = index_once d.spot.path d.index retired (each d.spot.path d.index) e d (subst (In e) (sym indexes) a) (subst (In d) (sym indexes) b)
+        at number refl refl in
+        one_fault (index_entry j d).call (index_entry j d).fault f g
+        (subst (λ (z : IndexRun). IsAmong f (fault_in (index_entry j z).call (index_entry j z).fault)) is h) l

@@ -7,6 +7,7 @@ use Rattle.kt_rule.specs.declared.seats.Seat.{Seat}
 use Rattle.kt_rule.specs.declared.tables.RunTable.{RunTable}
 use Rattle.kt_rule.specs.declared.views.Setup.{Setup}
 use Rattle.kt_rule.specs.declared.views.Execution.{Execution}
+use Rattle.kt_rule.specs.declared.views.IndexRun.{IndexRun}
 use Rattle.kt_rule.specs.Lists.{In, here, there}
 use Rattle.kt_pool.specs.Seats.{AreSeatsOf, HaveNotStepped, IsSeatOf}
 use Rattle.kt_crew.specs.declared.jobs.Job.{Job}
@@ -14,7 +15,7 @@ use Rattle.kt_crew.specs.declared.jobs.Done.{Done}
 use Rattle.kt_crew.specs.Crews.{AreDone, AreJobs, AreReady, IsDoneBy, IsReady, seats_back, seats_in}
 use Rattle.kt_prog.specs.Runs.{FaultRun}
 use Rattle.kt_crew.specs.Ends.{first_with}
-use Rattle.kt_crew.proofs.Leasts.{ran_by}
+use Rattle.kt_crew.proofs.Leasts.{ran_by, retired_by}
 
 the_some : {X : Type 0} → {x y : X} → Some x ≡ Some y → x ≡ y
 the_some h = cc
@@ -137,6 +138,10 @@ all_back j t p done some all = record {
 pub ran_back : (done : List Done) → flat_map (λ (s : Seat). s.token.me.0.tasks.ran) (seats_back done) ≡ ran_by done
 ran_back [] = refl
 ran_back (d ∷ done) = ap (λ (es : List Execution). d.seat.token.me.0.tasks.ran ++ es) (ran_back done)
+
+pub retired_back : (done : List Done) → flat_map (λ (s : Seat). s.token.me.0.loops.retired) (seats_back done) ≡ retired_by done
+retired_back [] = refl
+retired_back (d ∷ done) = ap (λ (es : List IndexRun). d.seat.token.me.0.loops.retired ++ es) (retired_back done)
 
 -- every worker met its end
 pub each_done : (j : Setup) (t : RunTable) (p : Program) (done : List Done) → AreDone j t p done → (d : Done) → In d done → (k : ℕ) × IsDoneBy j t p k d

@@ -1,13 +1,15 @@
 -- What the workers of a run take along and what they bring back, in the order of their numbers.
 use Rattle.std.specs.Prelude.{◌≡◌, ◌<◌, ◌≤◌, ℕ, List, [], length, map, slice_get, Some}
 use Rattle.kt_law.specs.declared.limits.TheConstants.{WORKERS}
+use Rattle.kt_prog.specs.Accepted.{IsAccepted}
 use Rattle.kt_prog.specs.declared.programs.Program.{Program}
 use Rattle.kt_rule.specs.declared.seats.Seat.{Seat}
 use Rattle.kt_rule.specs.declared.tables.RunTable.{RunTable}
 use Rattle.kt_rule.specs.declared.views.Setup.{Setup}
 use Rattle.kt_pool.specs.Seats.{IsSeatOf, view_at_start}
 use Rattle.kt_worker.specs.Levels.{Ends}
-use Rattle.kt_worker.specs.Programs.{HasFirsts, HasRoom, IsRunnable}
+use Rattle.kt_intervals.specs.Programs.{HasFirsts}
+use Rattle.kt_worker.specs.Programs.{HasRoom}
 use Rattle.kt_worker.specs.declared.scratch.Scratch.{Scratch}
 use Rattle.kt_crew.specs.declared.jobs.Job.{Job}
 use Rattle.kt_crew.specs.declared.jobs.Done.{Done}
@@ -15,7 +17,7 @@ use Rattle.kt_crew.specs.declared.jobs.Done.{Done}
 -- a run of this program by 1 to 8 workers
 pub record IsRun (j : Setup) (p : Program) : Type 0 where
   pub program : j.program ≡ p
-  pub runnable : IsRunnable p
+  pub accepted : IsAccepted p
   pub few : j.workers ≤ WORKERS
 
 -- all room that a worker needs
@@ -34,7 +36,7 @@ pub record IsJobOf (j : Setup) (t : RunTable) (p : Program) (k : ℕ) (job : Job
 -- the seat of a worker that has come to its end, and its fault
 pub record IsDoneBy (j : Setup) (t : RunTable) (p : Program) (k : ℕ) (d : Done) : Type 0 where
   pub seat : IsSeatOf j t k d.seat
-  pub ends : Ends d.seat.token.me.0 p d.fault
+  pub ends : Ends d.seat.token.me.0 d.fault
 
 pub record AreJobs (j : Setup) (t : RunTable) (p : Program) (jobs : List Job) : Type 0 where
   pub count : length jobs ≡ j.workers

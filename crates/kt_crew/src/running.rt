@@ -9,7 +9,6 @@ ghost use Rattle.kt_prog.specs.declared.runs.Outcome.TheVariants.{Limit, Rows};
 ghost use Rattle.kt_rule.specs.declared.views.Setup.{Setup};
 ghost use Rattle.kt_pool.specs.Exact.{IsExact, joined_view, limit_of, workers_of};
 ghost use Rattle.kt_pool.specs.Seats.{setup_of};
-ghost use Rattle.kt_worker.specs.Programs.{IsRunnable};
 ghost use Rattle.kt_crew.specs.Crews.{AreDone, AreJobs, AreReady, IsDoneBy, IsJobOf, IsRun, seats_back, seats_in};
 ghost use Rattle.kt_crew.specs.Ends.{comes_to, first_with};
 
@@ -164,7 +163,7 @@ pub fn run_all<R: Threads + Wait + Sync, G: Gate + Sync>(
     workers: u32,
     gate: &G,
 ) -> Result<(Ran, Record), NoMemory>
-    requires runnable { IsRunnable program.now }
+    requires accepted { IsAccepted program.now }
     requires whole { length input.now ≡ inputs_of program.now.families }
     requires some { 1 ≤ workers }
     requires few { workers ≤ WORKERS }

@@ -1,12 +1,13 @@
 -- What a call leaves of a seat: its setup, how many it stands for, and its worker.
-use Rattle.std.proofs.Common.{◌≡◌, ℕ, [], List, ◌++◌, ◌∷◌, sym, ap, ◌∙◌, subst}
+use Rattle.std.proofs.Common.{◌≡◌, ℕ, [], List, ◌++◌, ◌∷◌, inl, inr, refl, sym, ap, ◌∙◌, subst}
 use Rattle.kt_law.specs.Acts.{Deed}
 use Rattle.kt_prog.specs.Calls.{CallTree}
 use Rattle.kt_runs.specs.ByPath.{Path}
 use Rattle.kt_rule.specs.declared.views.Spot.{Spot}
 use Rattle.kt_rule.specs.declared.views.View.{View}
 use Rattle.kt_rule.specs.Lists.{In, here, there}
-use Rattle.kt_steps.specs.Told.{DidNext, IsDueOn, IsMine}
+use Rattle.kt_steps.specs.Told.{IsMine}
+use Rattle.kt_loops.specs.Operations.{DidOne, IsNextOn}
 use Rattle.kt_tasks.specs.Claims.{Claimed}
 use Rattle.kt_tasks.specs.Publications.{HasPublished, MayPublish}
 use Rattle.kt_tasks.specs.declared.states.Claim.{Claim}
@@ -21,10 +22,15 @@ pub record IsSame (v w : View) : Type 0 where
   pub parts : w.parts ≡ v.parts
   pub worker : w.worker ≡ v.worker
 
-pub did_same : (v w : View) (n element : ℕ) (d : Deed) → IsDueOn v element d → DidNext v n w → IsSame v w
-did_same v w n element d q h =
-    let e = h q.setup q.told q.head q.rest q.runs q.act q.more q.next in
-    record { setup = ap (λ (y : View). y.setup) e; parts = ap (λ (y : View). y.parts) e; worker = ap (λ (y : View). y.worker) e }
+-- what is as it was of one view is so of a view that equals it
+pub same_as : (v w x : View) → w ≡ x → IsSame v x → IsSame v w
+same_as v w x e s = subst (IsSame v) (sym e) s
+
+pub did_same : (v w : View) (n element : ℕ) (d : Deed) → IsNextOn v element d → DidOne v n w → IsSame v w
+did_same v w n element d (inl q) h =
+    same_as v w _ (h.0 q.setup q.told q.done q.head q.rest q.taken q.over q.act q.more q.next) (record { setup = refl; parts = refl; worker = refl })
+did_same v w n element d (inr (none, q)) h =
+    same_as v w _ (h.1 none q.setup q.told q.head q.rest q.runs q.act q.more q.next) (record { setup = refl; parts = refl; worker = refl })
 
 in_behind : (p : Path) (xs ys : List Path) → In p ys → In p (xs ++ ys)
 in_behind p [] ys i = i
@@ -37,6 +43,7 @@ serves v w none s = record {
     seen = record v.seen { notes = w.seen.notes; known = w.seen.known };
     tasks = record v.tasks { claimed = w.tasks.claimed; promised = sym none i };
     desk = sym (ap (λ (y : View). y.desk) s.same) i;
+    loops = record v.loops { sight = w.loops.sight };
   });
   free = ap (λ (y : View). y.desk.free) s.same;
   leads = ap (λ (y : View). y.desk.leads) s.same;

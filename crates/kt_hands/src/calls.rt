@@ -1,11 +1,11 @@
 // The calls.
 use crate::hands::{Hand, Home};
 use arrayvec::ArrayVec;
-use kt_calls::{Answer, Claim, Lead, Published, Run};
+use kt_calls::{Answer, Begun, Claim, Lead, Published, Run, Taken};
 use kt_law::Op;
 use kt_prog::{Call, PATH};
 use kt_ready::Scan;
-use kt_words::StateWord;
+use kt_words::{Pair, StateWord};
 
 impl<'t, H: Home> Run for Hand<'t, H> {
     ghost view = { λ h. h.seat.token.me.0 };
@@ -44,6 +44,30 @@ impl<'t, H: Home> Run for Hand<'t, H> {
 
     fn finish(&mut self, at: u32) {
         kt_tasks::finish(self.table, &mut self.seat, at);
+    }
+
+    fn begin_loop(&mut self, at: u32) -> Begun {
+        kt_loops::begin_loop(self.table, &mut self.seat, at)
+    }
+
+    fn take_piece(&mut self, at: u32, piece: Pair) {
+        kt_loops::take_piece(self.table, &mut self.seat, at, piece);
+    }
+
+    fn chunk(&mut self, grain: u32) -> Taken {
+        kt_loops::chunk(self.table, &mut self.seat, grain)
+    }
+
+    fn retire(&mut self, at: u32, count: u32) -> u32 {
+        kt_loops::retire(self.table, &mut self.seat, at, count)
+    }
+
+    fn left(&mut self, at: u32) -> u32 {
+        kt_loops::left(self.table, &mut self.seat, at)
+    }
+
+    fn first_of(&mut self, at: u32) -> u32 {
+        kt_loops::first_of(self.table, &mut self.seat, at)
     }
 
     fn stand(&mut self, at: u32) -> StateWord {

@@ -1,5 +1,6 @@
+pub mod Zeroing
 pub mod Stands
 pub mod Begun
-pub mod Runnable
 pub mod Requests
 pub mod Turning
+pub mod Intervals

@@ -1,7 +1,8 @@
 -- What comes of asking.
-use Rattle.std.proofs.Common.{◌≡◌, ◌≤◌, ◌<◌, ℕ, Bool, true, false, List, [], ◌∷◌, Option, Some, None, refl, sym, ap, ◌∙◌, subst}
+use Rattle.std.proofs.Common.{◌≡◌, ℕ, true, false, List, [], ◌∷◌, refl, sym, ap, ◌∙◌, subst}
 use Rattle.kt_runs.specs.ByPath.{Path}
 use Rattle.kt_words.specs.Words.{packed_post, packed_pair}
+use Rattle.kt_words.specs.declared.pairs.Pair.{Pair}
 use Rattle.kt_words.specs.declared.posts.Post.{Post}
 use Rattle.kt_words.specs.declared.posts.Post.TheVariants as P
 use Rattle.kt_rule.specs.declared.views.Spot.{Spot}
@@ -14,7 +15,7 @@ use Rattle.kt_calls.specs.Ranges.{IsOfCrew, IsRecord, IsWorker}
 use Rattle.kt_calls.specs.Serving.{Serves}
 use Rattle.kt_posts.specs.declared.answers.Answer.{Answer}
 use Rattle.kt_posts.specs.declared.answers.Answer.TheVariants as A
-use Rattle.kt_worker.specs.Asking.{Asks, Came, IsAnswered, IsIdle, Learnt, Tried, WasGiven, WasGivenPiece}
+use Rattle.kt_worker.specs.Asking.{Asks, IsAnswered, IsIdle, Learnt, Tried}
 use Rattle.kt_worker.proofs.Stands.{crew_same, record_same}
 
 -- what may be otherwise, taken from another view
@@ -23,7 +24,7 @@ learns v x = record v {
   tasks = record v.tasks { claimed = x.tasks.claimed; given = x.tasks.given };
   seen = record v.seen { known = x.seen.known; notes = x.seen.notes };
   desk = x.desk;
-  loops = record v.loops { pieces = x.loops.pieces };
+  loops = record v.loops { pieces = x.loops.pieces; sight = x.loops.sight };
 }
 
 -- nothing else is otherwise in this view
@@ -62,7 +63,7 @@ led v w x victim free won s =
         tasks = record w.tasks { claimed = x.tasks.claimed; given = sym given i };
         seen = record w.seen { known = x.seen.known; notes = x.seen.notes };
         desk = x.desk;
-        loops = record w.loops { pieces = sym pieces i };
+        loops = record w.loops { pieces = sym pieces i; sight = x.loops.sight };
       });
       known = s.known;
     } in
@@ -97,7 +98,7 @@ tried_both v w x (A.Task at) f g = (answered_both v w x f g.0, g.1, g.2 ∙ f.pi
 tried_both v w x (A.Piece at pair) f g = let h = g.2 in (
   answered_both v w x f g.0,
   g.1,
-  record { piece = h.piece; is = h.is ∙ ap (λ (xs : List Share). h.piece ∷ xs) f.pieces; lies = h.lies; pair_is = h.pair_is },
+  record { inside = h.inside; piece = h.piece; is = h.is ∙ ap (λ (xs : List Share). h.piece ∷ xs) f.pieces; lies = h.lies; pair_is = h.pair_is },
 )
 
 pub setup_of : (v w : View) → Learnt v w → w.setup ≡ v.setup
@@ -117,9 +118,9 @@ promised_learnt v w l = ap (λ (y : View). y.tasks.promised) l.same
 
 -- what the own post says, of a seat that asks and was given nothing
 pub settled : (u w : View) (o : Post) (a : Answer) → u.tasks.given ≡ [] → u.desk.free ≡ false → u.desk.leads ≡ false
-    → ((at : ℕ) → a ≡ A.Task at → IsRecord u at) → Settled o u w a → Tried u w a
-settled u w P.Idle a given free leads inside h = absurd h
-settled u w (P.Posted victim) a given free leads inside (is, same) =
+    → ((at : ℕ) → a ≡ A.Task at → IsRecord u at) → ((at : ℕ) (piece : Pair) → a ≡ A.Piece at piece → IsRecord u at) → Settled o u w a → Tried u w a
+settled u w P.Idle a given free leads inside piece_inside h = absurd h
+settled u w (P.Posted victim) a given free leads inside piece_inside (is, same) =
     subst (Tried u w) (sym is) (record {
       learnt = learnt_of u w (sees u (packed_post (P.Posted victim)) false) same refl refl;
       given = ap (λ (y : View). y.tasks.given) same;
@@ -127,7 +128,7 @@ settled u w (P.Posted victim) a given free leads inside (is, same) =
       free = ap (λ (y : View). y.desk.free) same ∙ free;
       leads = ap (λ (y : View). y.desk.leads) same ∙ leads;
     })
-settled u w (P.Held victim) a given free leads inside (is, same) =
+settled u w (P.Held victim) a given free leads inside piece_inside (is, same) =
     subst (Tried u w) (sym is) (record {
       learnt = learnt_of u w (sees u (packed_post (P.Held victim)) false) same refl refl;
       given = ap (λ (y : View). y.tasks.given) same;
@@ -135,7 +136,7 @@ settled u w (P.Held victim) a given free leads inside (is, same) =
       free = ap (λ (y : View). y.desk.free) same ∙ free;
       leads = ap (λ (y : View). y.desk.leads) same ∙ leads;
     })
-settled u w P.Failed a given free leads inside (is, same) =
+settled u w P.Failed a given free leads inside piece_inside (is, same) =
     subst (Tried u w) (sym is) (
       record {
         learnt = learnt_of u w (freed (sees u (packed_post P.Failed) true)) same refl refl;
@@ -145,7 +146,7 @@ settled u w P.Failed a given free leads inside (is, same) =
       ap (λ (y : View). y.tasks.given) same ∙ given,
       ap (λ (y : View). y.loops.pieces) same,
     )
-settled u w (P.Task at) a given free leads inside (is, (m, lies, same, _)) =
+settled u w (P.Task at) a given free leads inside piece_inside (is, (m, lies, same, _)) =
     subst (Tried u w) (sym is) (
       record {
         learnt = learnt_of u w (freed (takes_task (sees u (packed_post (P.Task at)) true) m)) same refl refl;
@@ -160,7 +161,7 @@ settled u w (P.Task at) a given free leads inside (is, (m, lies, same, _)) =
       },
       ap (λ (y : View). y.loops.pieces) same,
     )
-settled u w (P.Piece at) a given free leads inside (x, lies, fits, is, same, _) =
+settled u w (P.Piece at) a given free leads inside piece_inside (x, lies, fits, is, same, _) =
     subst (Tried u w) (sym is) (
       record {
         learnt = learnt_of u w (freed (takes_piece (gets_piece (sees u (packed_post (P.Piece at)) true) (packed_pair (pair_of x))) x)) same refl refl;
@@ -168,7 +169,7 @@ settled u w (P.Piece at) a given free leads inside (x, lies, fits, is, same, _) 
         leads = ap (λ (y : View). y.desk.leads) same ∙ leads;
       },
       ap (λ (y : View). y.tasks.given) same ∙ given,
-      record { piece = x; is = ap (λ (y : View). y.loops.pieces) same; lies = lies; pair_is = refl },
+      record { inside = record_same u w at (ap (λ (y : View). y.setup) same) (piece_inside at (pair_of x) is); piece = x; is = ap (λ (y : View). y.loops.pieces) same; lies = lies; pair_is = refl },
     )
 
 pub idle_asks : (v w : View) → IsIdle v → Asks v w → w.tasks.given ≡ []

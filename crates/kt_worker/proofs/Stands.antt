@@ -1,52 +1,49 @@
 -- What an operation makes of the seat within a body.
-use Rattle.std.proofs.Common.{◌≡◌, ◌≤◌, ◌<◌, ◌⊎◌, inl, inr, ℕ, zero, suc, ◌+◌, ◌*◌, ◌-◌, cond, Bool, true, false, nat_lt, List, [], ◌∷◌, ◌++◌, length, slice_get, slice_index, Option, Some, None, refl, sym, ap, ◌∙◌, subst, arith, length-append, append-nil}
+use Rattle.std.proofs.Common.{◌≡◌, ◌≤◌, ◌<◌, inl, inr, ℕ, zero, suc, ◌+◌, Bool, true, false, nat_lt, List, [], ◌∷◌, ◌++◌, length, map, Option, refl, sym, ap, ◌∙◌, subst, arith, length-append, append-nil}
 use Rattle.std.proofs.lemmas.Bool.Decides.{nat_tests}
 use Rattle.std.proofs.lemmas.List.{append_assoc}
 use mathlib.Core.Option.{some, some-ne-none}
 use lib.ListN.{get_elem?}
 use Rattle.kt_law.specs.Acts.{Act, Deed, Load, Store, Fold}
-use Rattle.kt_order.specs.Body.{Body, Do, Stop, Fork}
-use Rattle.kt_order.specs.Forest.{Task}
+use Rattle.kt_order.specs.Body.{Do, Stop, Fork}
 use Rattle.kt_order.specs.Machine.{Code}
-use Rattle.kt_order.specs.Rest.{left, left_of, standing}
-use Rattle.kt_order.specs.Stand.{Standing, stand}
+use Rattle.kt_order.specs.Rest.{left, left_of}
+use Rattle.kt_order.specs.Stand.{stand}
 use Rattle.kt_order.proofs.Stands.{stand_acted, stand_forked, stand_ended}
-use Rattle.kt_law.specs.declared.limits.TheConstants.{ELEMENTS}
-use Rattle.kt_prog.proofs.LastWriter.{place_below}
-use Rattle.kt_prog.proofs.Plain.{few_objects}
 use Rattle.kt_prog.specs.Accepted.{IsAccepted}
-use Rattle.kt_prog.specs.Next.{IsElement}
 use Rattle.kt_prog.specs.Calls.{CallTree, Job, Whole}
-use Rattle.kt_prog.specs.Objects.{objects_of, elements_of, first_element_of}
-use Rattle.kt_prog.specs.Operations.{heard, operations, IsNext}
+use Rattle.kt_prog.specs.Objects.{elements_of, first_element_of}
+use Rattle.kt_prog.specs.Operations.{heard, is_loop_at, operations, zeroing, IsNext}
 use Rattle.kt_prog.specs.Reference.{Placed, machine_of}
 use Rattle.kt_prog.specs.Script.{Fault}
 use Rattle.kt_prog.specs.declared.programs.Program.{Program}
 use Rattle.kt_prog.specs.declared.runs.Operation.{Operation}
 use Rattle.kt_prog.specs.declared.runs.Operation.TheVariants as O
-use Rattle.kt_body.specs.Endings.{EndsSo, answers_of}
+use Rattle.kt_body.specs.Endings.{EndsSo, ZeroesSo, answers_of}
 use Rattle.kt_body.specs.declared.ops.Ended.{Ended}
 use Rattle.kt_body.specs.declared.ops.Ended.TheVariants as E
 use Rattle.kt_runs.specs.Bodies.{IsFirst}
-use Rattle.kt_runs.specs.ByPath.{Path, child}
+use Rattle.kt_runs.specs.ByPath.{child}
 use Rattle.kt_runs.proofs.Next.{next_is_first}
 use Rattle.kt_words.specs.declared.layouts.TheConstants.{RECORDS}
 use Rattle.kt_rule.specs.declared.views.Berth.{Berth}
 use Rattle.kt_rule.specs.declared.views.Draws.{Draws}
 use Rattle.kt_rule.specs.declared.views.Execution.{Execution}
-use Rattle.kt_rule.specs.declared.views.Setup.{Setup}
+use Rattle.kt_rule.specs.declared.views.IndexRun.{IndexRun}
+use Rattle.kt_rule.specs.Lists.{In}
 use Rattle.kt_rule.specs.declared.views.Spot.{Spot}
 use Rattle.kt_rule.specs.declared.views.View.{View}
-use Rattle.kt_rule.specs.Facts.{task_in}
 use Rattle.kt_rule.specs.Steps.{did_one, does_one, forked_one, published, next_of, over, IsBehind}
 use Rattle.kt_rule.specs.Steps as Steps
-use Rattle.kt_rule.specs.Views.{no_draws}
-use Rattle.kt_steps.specs.Told.{DidNext, IsDueOn}
-use Rattle.kt_tasks.specs.Publications.{MayPublish, berth_of, halted}
+use Rattle.kt_steps.specs.Told.{IsDueOn}
+use Rattle.kt_tasks.specs.Publications.{MayPublish, halted}
 use Rattle.kt_calls.specs.Ranges.{IsElementOf, IsOfCrew, IsRecord}
+use Rattle.kt_intervals.specs.Indexes.{fault_with}
+use Rattle.kt_intervals.proofs.Acts.{act_first, act_of, heard_same, last_next, last_op, op_of, stops_with}
+use Rattle.kt_loops.specs.Operations.{DidOne, IsNextOn, RunsNoIndex}
 use Rattle.kt_worker.specs.Faults.{task_of}
-use Rattle.kt_worker.specs.Hands.{Came, GoneSo, Hand, HasChildren, IsAtEnd, IsUnderWay, Overran, Since, StandsAt, base_of, fault_with}
-use Rattle.kt_worker.specs.Programs.{HasFirsts}
+use Rattle.kt_worker.proofs.Zeroing.{zeroed_left}
+use Rattle.kt_worker.specs.Hands.{Came, GoneSo, Hand, HasChildren, IsAtEnd, IsUnderWay, IsZeroed, Since, StandsAt, ZeroedSo, base_of}
 
 -- what stands in a list stands in a longer one
 pub get_front : {A : Type 0} (xs ys : List A) (k : ℕ) (m : A) → get_elem? xs k ≡ some m → get_elem? (xs ++ ys) k ≡ some m
@@ -64,48 +61,12 @@ crew_same v w e f h = record { setup = h.setup; told = e ∙ h.told; own = rw f 
 pub record_same : (v w : View) (at : ℕ) → w.setup ≡ v.setup → IsRecord v at → IsRecord w at
 record_same v w at e h = record { setup = h.setup; told = e ∙ h.told; below = h.below }
 
--- an operation on an element
-abbrev pub op_of : ℕ → ℕ → Deed → ℕ → Operation
-op_of object element Load a = O.Load object element a
-op_of object element (Store v) a = O.Store object element v
-op_of object element (Fold op v) a = O.Fold object element op v
-
-abbrev pub act_of : ℕ → ℕ → Deed → Act
-act_of object element d = record { object = object; element = element; deed = d }
-
-heard_same : (object element : ℕ) (d : Deed) (n : ℕ) → Steps.heard (act_of object element d) n ≡ heard (op_of object element d n)
-heard_same object element Load n = refl
-heard_same object element (Store v) n = refl
-heard_same object element (Fold op v) n = refl
-
 module _ (p : Program) where
-  pub act_first : (object element : ℕ) (d : Deed) (a : ℕ) (c : Code (machine_of p)) → IsFirst p (op_of object element d a) c
-      → (k : ℕ → Code (machine_of p)) × (c ≡ Do (act_of object element d) k)
-  act_first object element Load a (Do q k) h = (k, cc)
-  act_first object element Load a (Stop f) h = absurd h
-  act_first object element Load a (Fork c w) h = absurd h
-  act_first object element (Store v) a (Do q k) h = (k, cc)
-  act_first object element (Store v) a (Stop f) h = absurd h
-  act_first object element (Store v) a (Fork c w) h = absurd h
-  act_first object element (Fold op v) a (Do q k) h = (k, cc)
-  act_first object element (Fold op v) a (Stop f) h = absurd h
-  act_first object element (Fold op v) a (Fork c w) h = absurd h
-
   pub fork_first : (call : CallTree) (c : Code (machine_of p)) → IsFirst p (O.Fork call) c
       → (d : Placed) × (k : Code (machine_of p)) × (c ≡ Fork d k) × (d.job ≡ Whole call)
   fork_first call (Do q k) h = absurd h
   fork_first call (Stop f) h = absurd h
   fork_first call (Fork d w) h = (d, w, refl, h)
-
-  pub end_first : (c : Code (machine_of p)) → IsFirst p O.End c → c ≡ Stop None
-  end_first (Do q k) h = absurd h
-  end_first (Stop f) h = cc
-  end_first (Fork d w) h = absurd h
-
-  pub fault_first : (law : _) (line : ℕ) (c : Code (machine_of p)) → IsFirst p (O.Fault law line) c → c ≡ Stop (Some (record { law = law; line = line }))
-  fault_first law line (Do q k) h = absurd h
-  fault_first law line (Stop f) h = cc
-  fault_first law line (Fork d w) h = absurd h
 
   pub way_left : (e : Execution) (w : IsUnderWay p e) → left (machine_of p) (task_of p e) ≡ w.st.left
   way_left e w = ap (left_of (machine_of p)) w.is
@@ -213,7 +174,7 @@ module _ (began : View) (h : Hand) (p : Program) (job : Job) (answers : List ℕ
   acts : (object element : ℕ) (d : Deed) (a : ℕ) → IsNext p job answers count (op_of object element d a) → Acts s.setup.program object element d
   acts object element d a next = subst (λ (q : Program). Acts q object element d) (sym s.same_program) (acts_here object element d a next)
 
-  pub due_on : (number object element : ℕ) (d : Deed) → number ≡ first_element_of p.families object + element
+  due_on : (number object element : ℕ) (d : Deed) → number ≡ first_element_of p.families object + element
       → IsNext p job answers count (op_of object element d 0) → IsDueOn h.view number d
   due_on number object element d is next =
       let k = acts object element d 0 next in
@@ -230,17 +191,24 @@ module _ (began : View) (h : Hand) (p : Program) (job : Job) (answers : List ℕ
         next = k.1;
       }
 
+  runs_none : RunsNoIndex h.view
+  runs_none j told e i = elim (subst (λ (es : List IndexRun). In e es) s.none_taken i) [ ]
+
+  pub next_on : (number object element : ℕ) (d : Deed) → number ≡ first_element_of p.families object + element
+      → IsNext p job answers count (op_of object element d 0) → IsNextOn h.view number d
+  next_on number object element d is next = inr (runs_none, due_on number object element d is next)
+
   pub element_inside : (number : ℕ) → number < elements_of p.families → IsElementOf h.view number
   element_inside number lt = record { setup = s.setup; told = s.told; below = rw s.same_program lt }
 
   -- after an operation on an element
-  pub acted : (w : View) (object element : ℕ) (d : Deed) (n : ℕ) → DidNext h.view n w → IsNext p job answers count (op_of object element d n)
+  pub acted : (w : View) (object element : ℕ) (d : Deed) (n : ℕ) → DidOne h.view n w → IsNext p job answers count (op_of object element d n)
       → StandsAt began (record h { view = w }) p job (answers ++ heard (op_of object element d n)) (count + 1)
   acted w object element d n did next =
       let k = acts object element d n next in
       let here = acts_here object element d n next in
       let act : Act = act_of object element d in
-      let same : w ≡ does_one h.view act n s.e s.since.rest = did s.setup s.told s.e s.since.rest running_is act k.0 k.1 in
+      let same : w ≡ does_one h.view act n s.e s.since.rest = did.1 runs_none s.setup s.told s.e s.since.rest running_is act k.0 k.1 in
       record {
         program = s.program;
         setup = s.setup;
@@ -258,6 +226,8 @@ module _ (began : View) (h : Hand) (p : Program) (job : Job) (answers : List ℕ
               draws = x.draws;
             }) (sym same));
         way = way_acted p s.e s.way object element d n here.0 here.1;
+        plain = s.plain;
+        none_taken = ap (λ (x : View). x.loops.taken) same ∙ s.none_taken;
         job_is = s.job_is;
         answers_are = ap (λ (xs : List ℕ). xs ++ Steps.heard act n) s.answers_are ∙ ap (λ (ys : List ℕ). answers ++ ys) (heard_same object element d n);
         count_is = let c = s.count_is in omega (arith, c);
@@ -367,6 +337,8 @@ module _ (began : View) (h : Hand) (p : Program) (job : Job) (answers : List ℕ
               draws = x.draws;
             }) (sym same));
         way = way_forked p s.e s.way f.0 f.1 f.2;
+        plain = s.plain;
+        none_taken = ap (λ (x : View). x.loops.taken) same ∙ s.none_taken;
         job_is = s.job_is;
         answers_are = s.answers_are ∙ sym (append-nil answers);
         count_is = let c = s.count_is in omega (arith, c);
@@ -408,6 +380,8 @@ module _ (began : View) (h : Hand) (p : Program) (job : Job) (answers : List ℕ
               draws = x.draws;
             }) (sym same));
         way = s.way;
+        plain = s.plain;
+        none_taken = ap (λ (x : View). x.loops.taken) same ∙ s.none_taken;
         job_is = s.job_is;
         answers_are = s.answers_are;
         count_is = s.count_is;
@@ -424,35 +398,13 @@ module _ (began : View) (h : Hand) (p : Program) (job : Job) (answers : List ℕ
         stop = λ l. ap (λ (x : View). x.seen.stop) same;
       }
 
-get_last : {A : Type 0} (xs : List A) (m : A) → slice_get (xs ++ m ∷ []) (length xs) ≡ Some m
-get_last [] m = refl
-get_last (x ∷ xs) m = get_last xs m
-
-last_next : (p : Program) (job : Job) (done : List Operation) (op : Operation) → heard op ≡ [] → operations p job (answers_of done) ≡ done ++ op ∷ []
-    → IsNext p job (answers_of done) (length done) op
-last_next p job done op quiet all =
-    let same : answers_of done ++ heard op ≡ answers_of done = ap (λ (xs : List ℕ). answers_of done ++ xs) quiet ∙ append-nil (answers_of done) in
-    ap (λ (xs : List ℕ). slice_get (operations p job xs) (length done)) same ∙ ap (λ (ops : List Operation). slice_get ops (length done)) all ∙ get_last done op
-
--- the operation with which a body ends so
-abbrev last_op : Ended → Operation
-last_op E.Done = O.End
-last_op (E.Fault law line) = O.Fault law line
-last_op E.Halted = O.End
-
-stops_with : (p : Program) (ended : Ended) (c : Code (machine_of p)) → IsFirst p (last_op ended) c → c ≡ Stop (fault_with ended)
-stops_with p E.Done c h = end_first p c h
-stops_with p (E.Fault law line) c h = fault_first p law line c h
-stops_with p E.Halted c h = end_first p c h
-
-came : (began : View) (h : Hand) (p : Program) (job : Job) (done : List Operation) (ended : Ended) → heard (last_op ended) ≡ []
-    → operations p job (answers_of done) ≡ done ++ last_op ended ∷ [] → StandsAt began h p job (answers_of done) (length done) → (h.limit ≡ true → ⊥)
-    → Came began h.view p h.forks ended
-came began h p job done ended quiet all s live = record {
+came : (began : View) (h : Hand) (p : Program) (job : Job) (answers : List ℕ) (count : ℕ) (s : StandsAt began h p job answers count) → (h.limit ≡ true → ⊥)
+    → (far : Execution → Type 0) → far s.e → Came began h.view h.forks far
+came began h p job answers count s live far there = record {
   e = s.e;
   since = s.since;
-  ends = at_end p s.e (fault_with ended) s.way
-      (stops_with p ended (left (machine_of p) (task_of p s.e)) (first_of began h p job (answers_of done) (length done) s (last_op ended) (last_next p job done (last_op ended) quiet all)));
+  plain = s.plain;
+  ends = there;
   forks_are = s.forks_are;
   children = subst (λ (n : ℕ). HasChildren h.view.region.spots (base_of h.view) n s.e.spot.path h.forks) s.start s.children;
   long = subst (λ (n : ℕ). length h.view.region.spots ≡ n + h.forks) s.start s.next_is;
@@ -460,6 +412,33 @@ came began h p job done ended quiet all s live = record {
   built = s.built;
   draws = s.draws (is_false h.limit live);
 }
+
+came_end : (began : View) (h : Hand) (p : Program) (job : Job) (done : List Operation) (ended : Ended) → heard (last_op p ended) ≡ []
+    → operations p job (answers_of done) ≡ done ++ last_op p ended ∷ [] → StandsAt began h p job (answers_of done) (length done) → (h.limit ≡ true → ⊥)
+    → Came began h.view h.forks (λ e. IsAtEnd p e (fault_with ended))
+came_end began h p job done ended quiet all s live =
+    came began h p job (answers_of done) (length done) s live (λ e. IsAtEnd p e (fault_with ended))
+    (at_end p s.e (fault_with ended) s.way
+    (stops_with p ended (left (machine_of p) (task_of p s.e)) (first_of began h p job (answers_of done) (length done) s (last_op p ended) (last_next p job done (last_op p ended) quiet all))))
+
+-- the zeroing is done
+came_zeroed : (began : View) (h : Hand) (p : Program) (call : CallTree) → is_loop_at p call.task ≡ true
+    → StandsAt began h p (Whole call) (answers_of (zeroing p call)) (length (zeroing p call)) → (h.limit ≡ true → ⊥)
+    → Came began h.view h.forks (IsZeroed p)
+came_zeroed began h p call loop s live =
+    let same : call ≡ s.e.spot.berth.call = let is = s.job_is in cc in
+    let here : is_loop_at p s.e.spot.berth.call.task ≡ true = subst (λ (c : CallTree). is_loop_at p c.task ≡ true) same loop in
+    came began h p (Whole call) (answers_of (zeroing p call)) (length (zeroing p call)) s live (IsZeroed p)
+    (record {
+      way = s.way;
+      can = record {
+        running = refl;
+        placed = refl;
+        loop = here;
+        zeroed = zeroed_left p (task_of p s.e) s.e.spot.berth.call (map suc s.e.spot.path) here refl
+            (s.answers_are ∙ ap (λ (c : CallTree). answers_of (zeroing p c)) same) (s.count_is ∙ ap (λ (c : CallTree). length (zeroing p c)) same);
+      };
+    })
 
 -- how a body has gone, from how its run has ended; S is what the run was on
 module _ {S : Type 0} (hand : S → Hand) (goes : S → Operation → S → Type 0) (began : View) where
@@ -471,23 +450,14 @@ module _ {S : Type 0} (hand : S → Hand) (goes : S → Operation → S → Type
 
   pub gone : (p : Program) (job : Job) (x y : S) (ended : Ended) → EndsSo at goes halts p job x y ended
       → GoneSo began (hand y).view p (hand y).forks ended
-  gone p job x y E.Done (done, all, c) = came began (hand y) p job done E.Done refl all c.stands c.running
-  gone p job x y (E.Fault law line) (done, all, c) = came began (hand y) p job done (E.Fault law line) refl all c.stands c.running
+  gone p job x y E.Done (done, all, c) = came_end began (hand y) p job done E.Done refl all c.stands c.running
+  gone p job x y (E.Fault law line) (done, all, c) = came_end began (hand y) p job done (E.Fault law line) refl all c.stands c.running
   gone p job x y E.Halted (done, more, refused, called, all, stuck) =
       record { e = stuck.stands.e; since = stuck.stands.since; stop = stuck.stands.stop stuck.at_halt }
 
--- the element is there, its number is small, and the table has where its object begins
-pub record IsPlaced (p : Program) (firsts : List ℕ) (object element : ℕ) : Type 0 where
-  pub there : object < length firsts
-  pub first : slice_index firsts object ≡ first_element_of p.families object
-  pub elements : elements_of p.families ≤ ELEMENTS
-  pub number : first_element_of p.families object + element < elements_of p.families
-
-pub placed : (p : Program) (firsts : List ℕ) (object element : ℕ) → IsAccepted p → HasFirsts p.families firsts → IsElement p.families object element
-    → IsPlaced p firsts object element
-placed p firsts object element ok has there = record {
-  there = let n = has.count in let lt = there.0 in omega (arith, n, lt);
-  first = has.each object there.0;
-  elements = (few_objects p ok).1;
-  number = place_below p.families object element there.1;
-}
+  pub gone_zeroed : (p : Program) (call : CallTree) (x y : S) (ended : Ended) → is_loop_at p call.task ≡ true → ZeroesSo at goes halts p call x y ended
+      → ZeroedSo began (hand y).view p (hand y).forks ended
+  gone_zeroed p call x y E.Done loop c = came_zeroed began (hand y) p call loop c.stands c.running
+  gone_zeroed p call x y (E.Fault law line) loop h = h
+  gone_zeroed p call x y E.Halted loop (done, more, refused, all, stuck) =
+      record { e = stuck.stands.e; since = stuck.stands.since; stop = stuck.stands.stop stuck.at_halt }

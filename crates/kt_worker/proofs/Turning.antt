@@ -1,5 +1,5 @@
 -- The turns of a worker.
-use Rattle.std.proofs.Common.{◌≡◌, ◌≢◌, ◌≤◌, ◌<◌, ◌⊎◌, inl, inr, ℕ, zero, suc, ◌+◌, ◌*◌, Bool, true, false, cond, nat_lt, ◌==◌, if◌then◌else◌, List, [], ◌∷◌, ◌++◌, length, Option, Some, None, refl, sym, ap, ◌∙◌, subst, arith, append-nil}
+use Rattle.std.proofs.Common.{◌≡◌, ◌≢◌, ◌≤◌, ◌<◌, inl, inr, ℕ, zero, suc, ◌+◌, ◌*◌, Bool, true, false, cond, nat_lt, ◌==◌, if◌then◌else◌, List, [], ◌∷◌, ◌++◌, length, map, Option, Some, None, refl, sym, ap, ◌∙◌, subst, arith, append-nil, append_assoc}
 use Rattle.std.proofs.lemmas.Bool.Decides.{nat_tests}
 use mathlib.Core.Option.{some}
 use lib.ListN.{get_elem?}
@@ -9,41 +9,56 @@ use Rattle.kt_law.specs.declared.stands.Stand.TheVariants as S
 use Rattle.kt_order.specs.Body.{Stop}
 use Rattle.kt_order.specs.Rest.{left, standing}
 use Rattle.kt_order.specs.Shown.{fault_of}
+use Rattle.kt_prog.specs.Calls.{CallTree}
+use Rattle.kt_prog.specs.Entries.{fault_in}
+use Rattle.kt_prog.specs.Operations.{is_loop_at}
+use Rattle.kt_prog.specs.Outcome.{fault_before}
 use Rattle.kt_prog.specs.Reference.{machine_of}
 use Rattle.kt_prog.specs.Runs.{FaultRun}
 use Rattle.kt_prog.specs.Script.{Fault}
 use Rattle.kt_prog.specs.declared.programs.Program.{Program}
+use Rattle.kt_body.specs.declared.ops.Ended.{Ended}
 use Rattle.kt_runs.specs.ByPath.{Path, child}
+use Rattle.kt_runs.specs.Theorems.{whole_at}
 use Rattle.kt_words.specs.Words.{IsStateWord, packed_state, stand_number}
 use Rattle.kt_words.specs.declared.layouts.TheConstants.{RECORDS}
 use Rattle.kt_words.specs.declared.states.StateWord.{StateWord}
 use Rattle.kt_rule.specs.declared.views.Execution.{Execution}
+use Rattle.kt_rule.specs.declared.views.IndexRun.{IndexRun}
+use Rattle.kt_rule.specs.declared.views.LoopHands.{LoopHands}
 use Rattle.kt_rule.specs.declared.views.Seen.{Seen}
 use Rattle.kt_rule.specs.declared.views.Setup.{Setup}
 use Rattle.kt_rule.specs.declared.views.Spot.{Spot}
 use Rattle.kt_rule.specs.declared.views.Tasks.{Tasks}
 use Rattle.kt_rule.specs.declared.views.View.{View}
+use Rattle.kt_rule.specs.Close.{run_entry}
 use Rattle.kt_rule.specs.Lists.{In, here, there}
 use Rattle.kt_rule.specs.Records.{stand_in}
-use Rattle.kt_rule.specs.Steps.{BeforeKnown, begun_by, ends, knows_stop, learnt, over, paths_at, stands, starts, state_word, won_own}
-use Rattle.kt_rule.specs.Views.{main_spot, no_tasks}
+use Rattle.kt_rule.specs.Steps.{BeforeKnown, begun_by, knows_stop, learnt, over, paths_at, stands, starts, state_word, won_own}
+use Rattle.kt_rule.specs.Views.{main_spot}
 use Rattle.kt_rule.proofs.Moves.{at_below}
 use Rattle.kt_rule.proofs.Words.{word_parts}
-use Rattle.kt_steps.specs.Told.{IsEnded, IsMine}
+use Rattle.kt_steps.specs.Told.{IsMine}
 use Rattle.kt_tasks.specs.Claims.{AreFew, Claimed}
 use Rattle.kt_tasks.specs.declared.states.Claim.TheVariants as C
 use Rattle.kt_tasks.specs.Hands.{IsHeld}
 use Rattle.kt_calls.specs.Ranges.{IsOfCrew, IsRecord, IsWorker}
-use Rattle.kt_faults.specs.First.{earlier}
-use Rattle.kt_worker.specs.Asking.{IsAnswered, IsIdle, Learnt, WasGiven}
-use Rattle.kt_worker.specs.Faults.{fault_at, fault_in, least_of, task_of}
-use Rattle.kt_worker.specs.Hands.{HasChildren, IsAtEnd, base_of, fault_with}
-use Rattle.kt_worker.specs.Levels.{Bench, Calm, Ends, Extends, HasBegun, IsFrom, IsQuiet, LevelIs, Rises, Stacked, Turns, bench, kin, raised}
+use Rattle.kt_faults.specs.First.{IsFirst, earlier}
+use Rattle.kt_faults.proofs.Firsts.{earlier_first}
+use Rattle.kt_faults.proofs.Order.{irreflexive}
+use Rattle.kt_intervals.specs.Indexes.{fault_with}
+use Rattle.kt_intervals.specs.Faults.{faults_met, index_faults, task_faults}
+use Rattle.kt_loops.specs.Calls.{RunsLoop}
+use Rattle.kt_loops.specs.Operations.{IsPlainEnd, MayFinish, finished, finishes}
+use Rattle.kt_worker.specs.Asking.{HasSamePieces, IsAnswered, IsIdle, Learnt}
+use Rattle.kt_worker.specs.Faults.{IsLeast, fault_at, task_of}
+use Rattle.kt_worker.specs.Hands.{IsAtEnd, base_of}
+use Rattle.kt_worker.specs.Levels.{Bench, Calm, Ends, Extends, HasBegun, HasEnded, IsFrom, IsQuiet, IsThrough, LevelIs, Rises, Stacked, Turns, bench, kin, raised}
 use Rattle.kt_worker.specs.Turns.{IsAboutToStart}
 use Rattle.kt_worker.specs.Working.{IsFresh}
 use Rattle.kt_worker.specs.declared.stacks.Level.{Level}
 use Rattle.kt_worker.specs.declared.tallies.Tally.{Tally}
-use Rattle.kt_worker.proofs.Begun.{crew_of, extends_both, extends_same, held, quiet_of, stacked_keeps, stacked_length}
+use Rattle.kt_worker.proofs.Begun.{crew_of, extends_both, extends_same, held, least_same, quiet_of, stacked_keeps, stacked_length}
 use Rattle.kt_worker.proofs.Stands.{end_left, over_left, record_same}
 use Rattle.kt_order.specs.Stand.{Standing}
 
@@ -86,7 +101,7 @@ pub calm_of : (v w : View) (p : Program) (t : Tally) (levels : List Level) (b : 
 calm_of v w p t levels true e h = h
 calm_of v w p t levels false e h = cc
 
-pub ends_of : (v w : View) (p : Program) (t : Tally) (levels : List Level) (b : Bool) → b ≡ false → Turns v w p t levels b → Ends w p t.fault × Extends v w
+pub ends_of : (v w : View) (p : Program) (t : Tally) (levels : List Level) (b : Bool) → b ≡ false → Turns v w p t levels b → Ends w t.fault × Extends v w
 ends_of v w p t levels true e h = cc
 ends_of v w p t levels false e h = h
 
@@ -129,20 +144,23 @@ extends_seen v w seen same known = record {
   known = known;
 }
 
+-- what steps see or learn of loops changes nothing of this
+pub calm_same : (v w : View) (p : Program) (t : Tally) (levels : List Level) → bench w ≡ bench v → w.tasks ≡ v.tasks → w.loops.retired ≡ v.loops.retired
+    → Extends v w → Calm v p t levels → Calm w p t levels
+calm_same v w p t levels same tasks retired k c = record {
+  quiet = subst (λ (b : Bench). IsQuiet b p t.base t.used) (sym same) c.quiet;
+  fault = least_same t.fault v w (ap (λ (b : Bench). b.setup) same) (ap (λ (s : Tasks). s.ran) tasks) retired c.fault;
+  begun = c.begun ∙ ap (λ (s : Tasks). s.begun) (sym tasks);
+  counted = subst (λ (s : Tasks). s.begun ≡ length s.running + length s.ran) (sym tasks) c.counted;
+  few = subst (λ (s : Tasks). length s.running + (length s.halted + length s.ran) ≤ TASKS + WORKERS) (sym tasks) c.few;
+  stacked = subst (Stacked w p levels) (sym (ap (λ (s : Tasks). s.running) tasks)) (stacked_keeps v w p levels v.tasks.running k c.stacked);
+}
+
 pub calm_seen : (v w : View) (p : Program) (t : Tally) (levels : List Level) (seen : Seen) → w ≡ record v { seen = seen }
     → ((q : Path) → In q v.seen.known → In q w.seen.known) → Calm v p t levels → Calm w p t levels × Extends v w
 calm_seen v w p t levels seen same known c =
-    let k = extends_seen v w seen same known in (
-      record {
-        quiet = subst (λ (b : Bench). IsQuiet b p t.base t.used) (sym (ap bench same)) c.quiet;
-        fault = c.fault ∙ ap (λ (x : View). least_of p x.tasks.ran) (sym same);
-        begun = c.begun ∙ ap (λ (x : View). x.tasks.begun) (sym same);
-        counted = subst (λ (s : Tasks). s.begun ≡ length s.running + length s.ran) (sym (ap (λ (x : View). x.tasks) same)) c.counted;
-        few = subst (λ (s : Tasks). length s.running + (length s.halted + length s.ran) ≤ TASKS + WORKERS) (sym (ap (λ (x : View). x.tasks) same)) c.few;
-        stacked = subst (Stacked w p levels) (sym (ap (λ (x : View). x.tasks.running) same)) (stacked_keeps v w p levels v.tasks.running k c.stacked);
-      },
-      k,
-    )
+    let k = extends_seen v w seen same known in
+    (calm_same v w p t levels (ap bench same) (ap (λ (x : View). x.tasks) same) (ap (λ (x : View). x.loops.retired) same) k c, k)
 
 in_back : {A : Type 0} (xs ys : List A) (x : A) → In x ys → In x (xs ++ ys)
 in_back [] ys x i = i
@@ -202,7 +220,7 @@ found_main v w x same fits is = finds v w 0 (packed_state x) same (finished_word
 
 -- where no frame is under way, and main was found finished
 pub idle_ends : (v w : View) (p : Program) (t : Tally) (levels : List Level) (x : StateWord) → levels ≡ [] → w ≡ stands v 0 (packed_state x) → IsStateWord x
-    → x.stand ≡ S.Finished → Calm v p t levels → Ends w p t.fault × Extends v w
+    → x.stand ≡ S.Finished → Calm v p t levels → Ends w t.fault × Extends v w
 idle_ends v w p t levels x none same fits is c =
     let s = calm_stands v w p t levels 0 (packed_state x) same c in
     let long = stacked_length w p levels w.tasks.running s.0.stacked in
@@ -212,6 +230,8 @@ idle_ends v w p t levels x none same fits is c =
         leads = s.0.quiet.leads;
         given = s.0.quiet.given;
         promised = s.0.quiet.promised;
+        pieces = s.0.quiet.pieces;
+        taken = s.0.quiet.taken;
         fault = s.0.fault;
         cause = inl (found_main v w x same fits is, is_nil w.tasks.running zero_long);
       },
@@ -229,7 +249,7 @@ calm_stop v w p t levels false e same c = subst (λ (x : View). Calm x p t level
 
 -- a worker that reads that the run stops
 pub stops : (v w : View) (p : Program) (t : Tally) (levels : List Level) (b : Bool) → b ≡ true → w ≡ (if b then knows_stop v else v) → Calm v p t levels
-    → Ends w p t.fault × Extends v w
+    → Ends w t.fault × Extends v w
 stops v w p t levels false e same c = cc
 stops v w p t levels true e same c =
     let s = calm_seen v w p t levels (knows_stop v).seen same (stop_known v w same) c in (
@@ -238,6 +258,8 @@ stops v w p t levels true e same c =
         leads = s.0.quiet.leads;
         given = s.0.quiet.given;
         promised = s.0.quiet.promised;
+        pieces = s.0.quiet.pieces;
+        taken = s.0.quiet.taken;
         fault = s.0.fault;
         cause = inr (ap (λ (x : View). x.seen.stop) same);
       },
@@ -254,21 +276,22 @@ extends_learnt v w l = record {
 }
 
 quiet_learnt : (v w : View) (p : Program) (low count : ℕ) → Learnt v w → w.tasks.given ≡ [] → w.desk.free ≡ true → w.desk.leads ≡ false
-    → IsQuiet (bench v) p low count → IsQuiet (bench w) p low count
-quiet_learnt v w p low count l given free leads q =
+    → w.loops.pieces ≡ [] → IsQuiet (bench v) p low count → IsQuiet (bench w) p low count
+quiet_learnt v w p low count l given free leads pieces q =
     quiet_of (bench v) (bench w) p low count (ap (λ (x : View). x.setup) l.same) (ap (λ (x : View). x.worker) l.same)
     (ap (λ (x : View). x.region.spots) l.same) (ap (λ (x : View). x.region.built) l.same) (ap (λ (x : View). x.draws) l.same)
-    (ap (λ (x : View). x.tasks.promised) l.same) given free leads q
+    (ap (λ (x : View). x.tasks.promised) l.same) (ap (λ (x : View). x.loops.pending) l.same) (ap (λ (x : View). x.loops.over) l.same)
+    given free leads pieces (ap (λ (x : View). x.loops.taken) l.same ∙ q.taken) (ap (λ (x : View). x.loops.free) l.same ∙ q.empty) q
 
 -- it asked, and there was nothing
-pub calm_answered : (v w : View) (p : Program) (t : Tally) (levels : List Level) → IsAnswered v w → w.tasks.given ≡ [] → Calm v p t levels
-    → Calm w p t levels × Extends v w
-calm_answered v w p t levels a given c =
+pub calm_answered : (v w : View) (p : Program) (t : Tally) (levels : List Level) → IsAnswered v w → w.tasks.given ≡ [] → HasSamePieces v w
+    → Calm v p t levels → Calm w p t levels × Extends v w
+calm_answered v w p t levels a given pieces c =
     let l = a.learnt in
     let k = extends_learnt v w l in (
       record {
-        quiet = quiet_learnt v w p t.base t.used l given a.free a.leads c.quiet;
-        fault = c.fault ∙ ap (λ (x : View). least_of p x.tasks.ran) (sym l.same);
+        quiet = quiet_learnt v w p t.base t.used l given a.free a.leads (pieces ∙ c.quiet.pieces) c.quiet;
+        fault = least_same t.fault v w (ap (λ (x : View). x.setup) l.same) (ap (λ (x : View). x.tasks.ran) l.same) (ap (λ (x : View). x.loops.retired) l.same) c.fault;
         begun = c.begun ∙ ap (λ (x : View). x.tasks.begun) (sym l.same);
         counted = subst (λ (x : View). x.tasks.begun ≡ length x.tasks.running + length x.tasks.ran) (sym l.same) c.counted;
         few = subst (λ (x : View). length x.tasks.running + (length x.tasks.halted + length x.tasks.ran) ≤ TASKS + WORKERS) (sym l.same) c.few;
@@ -319,17 +342,25 @@ module _ (w : View) (p : Program) (t : Tally) (levels : List Level) (at : ℕ) (
             (ap (λ (y : View). y.region.built) same ∙ ap (λ (y : View). y.region.built) l_.same)
             (ap (λ (y : View). y.draws) same ∙ ap (λ (y : View). y.draws) l_.same)
             (ap (λ (y : View). y.tasks.promised) same ∙ ap (λ (y : View). y.tasks.promised) l_.same)
+            (ap (λ (y : View). y.loops.pending) same ∙ ap (λ (y : View). y.loops.pending) l_.same)
+            (ap (λ (y : View). y.loops.over) same ∙ ap (λ (y : View). y.loops.over) l_.same)
             (ap (λ (y : View). y.tasks.given) same)
             (ap (λ (y : View). y.desk.free) same ∙ h.answered.free)
             (ap (λ (y : View). y.desk.leads) same ∙ h.answered.leads)
+            (ap (λ (y : View). y.loops.pieces) same ∙ h.pieces ∙ h.calm.quiet.pieces)
+            (ap (λ (y : View). y.loops.taken) same ∙ ap (λ (y : View). y.loops.taken) l_.same ∙ h.calm.quiet.taken)
+            (ap (λ (y : View). y.loops.free) same ∙ ap (λ (y : View). y.loops.free) l_.same ∙ h.calm.quiet.empty)
             h.calm.quiet;
-        fault = h.calm.fault ∙ ap (λ (y : View). least_of p y.tasks.ran) (sym l_.same) ∙ ap (λ (y : View). least_of p y.tasks.ran) (sym same);
+        fault = least_same t.fault h.before x (ap (λ (y : View). y.setup) same ∙ ap (λ (y : View). y.setup) l_.same)
+            (ap (λ (y : View). y.tasks.ran) same ∙ ap (λ (y : View). y.tasks.ran) l_.same)
+            (ap (λ (y : View). y.loops.retired) same ∙ ap (λ (y : View). y.loops.retired) l_.same) h.calm.fault;
         e = begun_by w.tasks h.given.task;
         rest = h.before.tasks.running;
         is = running;
         answers = refl;
         done = refl;
         forks = refl;
+        plain = refl;
         frame = sym (ap (λ (y : View). y.tasks.begun) same);
         at_is = h.given.lies;
         inside = record_same w x at (ap (λ (y : View). y.setup) same) h.given.inside;
@@ -354,7 +385,7 @@ module _ (w : View) (p : Program) (t : Tally) (levels : List Level) (at : ℕ) (
     )
 
     -- the run stops by now
-    pub begun_stops : (y : View) (b : Bool) → b ≡ true → y ≡ (if b then knows_stop x else x) → Ends y p t.fault × Extends w y
+    pub begun_stops : (y : View) (b : Bool) → b ≡ true → y ≡ (if b then knows_stop x else x) → Ends y t.fault × Extends w y
     begun_stops y false e is = cc
     begun_stops y true e is =
         let b = begun_given.0 in (
@@ -363,7 +394,9 @@ module _ (w : View) (p : Program) (t : Tally) (levels : List Level) (at : ℕ) (
             leads = ap (λ (z : View). z.desk.leads) is ∙ b.quiet.leads;
             given = ap (λ (z : View). z.tasks.given) is ∙ b.quiet.given;
             promised = ap (λ (z : View). z.tasks.promised) is ∙ b.quiet.promised;
-            fault = b.fault ∙ ap (λ (z : View). least_of p z.tasks.ran) (sym is);
+            pieces = ap (λ (z : View). z.loops.pieces) is ∙ b.quiet.pieces;
+            taken = ap (λ (z : View). z.loops.taken) is ∙ b.quiet.taken;
+            fault = least_same t.fault x y (ap (λ (z : View). z.setup) is) (ap (λ (z : View). z.tasks.ran) is) (ap (λ (z : View). z.loops.retired) is) b.fault;
             cause = inr (ap (λ (z : View). z.seen.stop) is);
           },
           extends_both w x y extends_now (extends_seen x y (knows_stop x).seen is (stop_known x y is)),
@@ -439,13 +472,14 @@ module _ (v : View) (p : Program) (t : Tally) (l : Level) (levels : List Level) 
         } in (
           record {
             quiet = subst (λ (b : Bench). IsQuiet b p t.base t.used) (sym (ap bench same)) c.quiet;
-            fault = c.fault ∙ ap (λ (y : View). least_of p y.tasks.ran) (sym same);
+            fault = least_same t.fault v w (ap (λ (y : View). y.setup) same) (ap (λ (y : View). y.tasks.ran) same) (ap (λ (y : View). y.loops.retired) same) c.fault;
             e = begun_by v.tasks entry.0;
             rest = top.e ∷ top.rest;
             is = ap (λ (y : View). y.tasks.running) same ∙ ap (λ (es : List Execution). begun_by v.tasks entry.0 ∷ es) top.is;
             answers = refl;
             done = refl;
             forks = refl;
+            plain = refl;
             frame = sym (ap (λ (y : View). y.tasks.begun) same);
             at_is = entry_at at is;
             inside = record_same v w at (ap (λ (y : View). y.setup) same) (entry_inside at is);
@@ -531,6 +565,29 @@ passed v w p t l levels c more at x at_is same fits is =
 
 -- THE END OF A TASK
 
+-- the fault of a task is the first of its faults
+first_of_one : (path : Path) (call : CallTree) (fault : Option Fault) → IsFirst (fault_at path fault) (fault_in (whole_at (map suc path) call) fault ++ [])
+first_of_one path call None = refl
+first_of_one path call (Some f) = (inl refl, (not_before_itself, tt))
+  where
+    mine : FaultRun
+    mine = record { path = map suc path; index = None; fault = f.law; line = f.line }
+
+    not_before_itself : fault_before mine mine ≡ false
+    not_before_itself = rw (irreflexive (map suc path)) refl
+
+first_with : (path : Path) (call : CallTree) (fault : Option Fault) (least : Option FaultRun) (faults : List FaultRun) → IsFirst least faults
+    → IsFirst (earlier (fault_at path fault) least) ((fault_in (whole_at (map suc path) call) fault ++ []) ++ faults)
+first_with path call fault least faults first =
+    earlier_first (fault_at path fault) least (fault_in (whole_at (map suc path) call) fault ++ []) faults (first_of_one path call fault) first
+
+-- the faults of one task more
+one_more_met : (j : Setup) (e : Execution) (ran : List Execution) (others : List FaultRun)
+    → task_faults j (e ∷ []) ++ (task_faults j ran ++ others) ≡ task_faults j (e ∷ ran) ++ others
+one_more_met j e ran others =
+    let own = fault_in (run_entry j e).call (run_entry j e).fault in
+    ap (λ (xs : List FaultRun). xs ++ (task_faults j ran ++ others)) (append-nil own) ∙ sym (append_assoc own (task_faults j ran) others)
+
 -- a task is finished, and where it is the next entry of the frame below, that frame has one more
 raise_stacked : (own : Bool) (v w : View) (p : Program) (e : Execution) (levels : List Level) (rest : List Execution) → Extends v w → In e.spot.path w.seen.known
     → IsFrom own e levels rest → Stacked v p levels rest → Stacked w p (raised own levels) rest
@@ -578,35 +635,104 @@ module _ (v : View) (p : Program) (t : Tally) (l : Level) (levels : List Level) 
   abbrev StandsIn : Program → Type 0
   StandsIn q = (st : Standing (machine_of q)) × (standing (machine_of q) (task_of q on_top.e) ≡ Some st) × (st.over ≡ false)
 
-  pub may_finish : l.count ≤ l.next → IsEnded v l.at
-  may_finish done = record {
-    setup = c.quiet.setup;
-    told = c.quiet.told;
-    head = on_top.e;
-    rest = on_top.rest;
-    runs = on_top.is;
-    lies = on_top.level.at;
-    st = stands.0;
-    stands = stands.1;
-    still = stands.2;
-    fault = fault_with l.ended;
-    next = subst (λ (q : Program). left (machine_of q) (task_of q on_top.e) ≡ Stop (fault_with l.ended)) (sym c.quiet.program)
-        (end_left p on_top.e (fault_with l.ended) on_top.level.ends);
-    children = λ k lt. on_top.level.known k (let forks = on_top.level.forks in omega (arith, lt, forks, done));
+  ends_plain : l.looping ≡ false → IsAtEnd p on_top.e (fault_with l.ended) × (on_top.e.looping ≡ false)
+  ends_plain is = subst (λ (b : Bool). HasEnded p on_top.e b l.ended) is on_top.level.ends
+
+  ends_loop : l.looping ≡ true → HasEnded p on_top.e true l.ended
+  ends_loop is = subst (λ (b : Bool). HasEnded p on_top.e b l.ended) is on_top.level.ends
+
+  pub top_looping : l.looping ≡ true → on_top.e.looping ≡ true
+  top_looping is = (ends_loop is).1
+
+  pub top_loop : l.looping ≡ true → is_loop_at p on_top.e.spot.berth.call.task ≡ true
+  top_loop is = (ends_loop is).3
+
+  -- the running body is a loop's
+  pub runs_loop : l.looping ≡ true → RunsLoop v l.at
+  runs_loop is = record { head = on_top.e; rest = on_top.rest; runs = on_top.is; lies = on_top.level.at; looping = (ends_loop is).1 }
+
+  plain_end : l.looping ≡ false → l.count ≤ l.next → IsPlainEnd v l.at
+  plain_end is done = record {
+    ended = record {
+      setup = c.quiet.setup;
+      told = c.quiet.told;
+      head = on_top.e;
+      rest = on_top.rest;
+      runs = on_top.is;
+      lies = on_top.level.at;
+      st = stands.0;
+      stands = stands.1;
+      still = stands.2;
+      fault = fault_with l.ended;
+      next = subst (λ (q : Program). left (machine_of q) (task_of q on_top.e) ≡ Stop (fault_with l.ended)) (sym c.quiet.program)
+          (end_left p on_top.e (fault_with l.ended) (ends_plain is).0);
+      children = λ k lt. on_top.level.known k (let forks = on_top.level.forks in omega (arith, lt, forks, done));
+    };
+    plain = (ends_plain is).1;
   }
     where
       stands : StandsIn c.quiet.setup.program
-      stands = let way = on_top.level.ends.way in subst StandsIn (sym c.quiet.program) (way.st, way.is, way.still)
+      stands = let way = (ends_plain is).0.way in subst StandsIn (sym c.quiet.program) (way.st, way.is, way.still)
 
-  fault_here : fault_in p (over on_top.e) ≡ fault_at on_top.e.spot.path (fault_with l.ended)
-  fault_here = ap (λ (w : _). fault_at on_top.e.spot.path (fault_of (machine_of p) w)) (over_left p on_top.e (fault_with l.ended) on_top.level.ends)
+  pub may_finish : IsThrough v l → MayFinish v l.at
+  may_finish through = which l.looping refl
+    where
+      which : (b : Bool) → l.looping ≡ b → MayFinish v l.at
+      which false is = inl (plain_end is (through.last is))
+      which true is = inr (through.emptied is)
+
+  -- the fault of the task, as an entry of a run has it
+  abbrev FaultOf : Program → Option Fault
+  FaultOf q = fault_of (machine_of q) (left (machine_of q) (task_of q (finished on_top.e)))
+
+  fault_here : FaultOf p ≡ fault_with l.ended
+  fault_here = which l.looping refl
+    where
+      code : Execution → Option Fault
+      code f = fault_of (machine_of p) (left (machine_of p) (task_of p f))
+
+      which : (b : Bool) → l.looping ≡ b → FaultOf p ≡ fault_with l.ended
+      which false is =
+          let end = ends_plain is in
+          ap (λ (b : Bool). code (cond b on_top.e (over on_top.e))) end.1
+          ∙ ap (λ (w : _). fault_of (machine_of p) w) (over_left p on_top.e (fault_with l.ended) end.0)
+      which true is =
+          let end = ends_loop is in
+          ap (λ (b : Bool). code (cond b on_top.e (over on_top.e))) end.1
+          ∙ end.2
+          ∙ ap (λ (d : Ended). fault_with d) (sym end.0)
+
+  -- the body goes one past its end, if it is no loop's
+  abbrev Past : Bool → Execution
+  Past b = cond b on_top.e (over on_top.e)
+
+  met_with : (j : Setup) (b : Bool) (faults : List FaultRun) → fault_of (machine_of j.program) (left (machine_of j.program) (task_of j.program (Past b))) ≡ fault_with l.ended
+      → IsFirst t.fault faults
+      → IsFirst (earlier (fault_at on_top.e.spot.path (fault_with l.ended)) t.fault) (task_faults j (Past b ∷ []) ++ faults)
+  met_with j true faults is least =
+      subst (λ (f : Option Fault). IsFirst (earlier (fault_at on_top.e.spot.path (fault_with l.ended)) t.fault) ((fault_in (whole_at (map suc on_top.e.spot.path) on_top.e.spot.berth.call) f ++ []) ++ faults)) (sym is)
+      (first_with on_top.e.spot.path on_top.e.spot.berth.call (fault_with l.ended) t.fault faults least)
+  met_with j false faults is least =
+      subst (λ (f : Option Fault). IsFirst (earlier (fault_at on_top.e.spot.path (fault_with l.ended)) t.fault) ((fault_in (whole_at (map suc on_top.e.spot.path) on_top.e.spot.berth.call) f ++ []) ++ faults)) (sym is)
+      (first_with on_top.e.spot.path on_top.e.spot.berth.call (fault_with l.ended) t.fault faults least)
+
+  finish_least : (w : View) (fault : Option FaultRun) → w ≡ finishes v on_top.e on_top.rest
+      → fault ≡ earlier (fault_at on_top.e.spot.path (fault_with l.ended)) t.fault → IsLeast fault w
+  finish_least w fault is_now is j told =
+      let now : v.setup ≡ Some j = ap (λ (y : View). y.setup) (sym is_now) ∙ told in
+      let mine : FaultOf j.program ≡ fault_with l.ended = subst (λ (q : Program). FaultOf q ≡ fault_with l.ended) (sym (setup_one v p t (l ∷ levels) c j now)) fault_here in
+      let faults = met_with j on_top.e.looping (faults_met j v) mine (c.fault j now) in
+      subst (λ (x : View). IsFirst fault (faults_met j x)) (sym is_now)
+      (subst (λ (f : Option FaultRun). IsFirst f (faults_met j (finishes v on_top.e on_top.rest))) (sym is)
+      (subst (λ (xs : List FaultRun). IsFirst (earlier (fault_at on_top.e.spot.path (fault_with l.ended)) t.fault) xs)
+      (one_more_met j (finished on_top.e) v.tasks.ran (index_faults j v.loops.retired)) faults))
 
   pub finish_calm : (w : View) (fault : Option FaultRun)
-      → ((e : Execution) (rest : List Execution) → v.tasks.running ≡ e ∷ rest → w ≡ ends v e rest)
-      → fault ≡ earlier t.fault (fault_at on_top.e.spot.path (fault_with l.ended))
+      → ((e : Execution) (rest : List Execution) → v.tasks.running ≡ e ∷ rest → w ≡ finishes v e rest)
+      → fault ≡ earlier (fault_at on_top.e.spot.path (fault_with l.ended)) t.fault
       → Turns v w p (record t { fault = fault }) (raised l.own levels) true
-  finish_calm w fault finished fault_is =
-      let same : w ≡ ends v on_top.e on_top.rest = finished on_top.e on_top.rest on_top.is in
+  finish_calm w fault done fault_is =
+      let same : w ≡ finishes v on_top.e on_top.rest = done on_top.e on_top.rest on_top.is in
       let keeps : Extends v w = record {
         seat = ap kin same;
         spots = λ a m o. subst (λ (y : View). get_elem? y.region.spots a ≡ some m) (sym same) o;
@@ -620,9 +746,7 @@ module _ (v : View) (p : Program) (t : Tally) (l : Level) (levels : List Level) 
       let five : w.tasks.begun ≡ v.tasks.begun = ap (λ (y : View). y.tasks.begun) same in (
         record {
           quiet = subst (λ (b : Bench). IsQuiet b p t.base t.used) (sym (ap bench same)) c.quiet;
-          fault = fault_is ∙ ap (λ (f : Option FaultRun). earlier f (fault_at on_top.e.spot.path (fault_with l.ended))) c.fault
-              ∙ ap (λ (f : Option FaultRun). earlier (least_of p v.tasks.ran) f) (sym fault_here)
-              ∙ ap (λ (y : View). least_of p y.tasks.ran) (sym same);
+          fault = finish_least w fault same fault_is;
           begun = c.begun ∙ sym five;
           counted = let was = c.counted in omega (arith, was, one, two, three, five);
           few =
@@ -669,8 +793,15 @@ calm_fresh v p h =
         promised = ap (λ (s : Tasks). s.promised) h.tasks;
         free = h.free;
         leads = h.leads;
+        pending = ap (λ (s : LoopHands). s.pending) h.loops;
+        pieces = ap (λ (s : LoopHands). s.pieces) h.loops;
+        taken = ap (λ (s : LoopHands). s.taken) h.loops;
+        empty = ap (λ (s : LoopHands). s.free) h.loops;
+        over = ap (λ (s : LoopHands). s.over) h.loops;
       };
-      fault = ap (λ (s : Tasks). least_of p s.ran) (sym h.tasks);
+      fault = λ j told.
+          ap (λ (es : List Execution). task_faults j es ++ index_faults j v.loops.retired) (ap (λ (s : Tasks). s.ran) h.tasks)
+          ∙ ap (λ (rs : List IndexRun). index_faults j rs) (ap (λ (s : LoopHands). s.retired) h.loops);
       begun = ap (λ (s : Tasks). s.begun) (sym h.tasks);
       counted = subst (λ (s : Tasks). s.begun ≡ length s.running + length s.ran) (sym h.tasks) refl;
       few = subst (λ (s : Tasks). length s.running + (length s.halted + length s.ran) ≤ TASKS + WORKERS) (sym h.tasks) (omega arith);
@@ -706,13 +837,14 @@ module _ (v : View) (p : Program) (t : Tally) (c : Calm v p t []) (h : IsFresh v
       let none : v.tasks.running ≡ [] = ap (λ (s : Tasks). s.running) h.tasks in (
         record {
           quiet = subst (λ (b : Bench). IsQuiet b p t.base t.used) (sym (ap bench same)) c.quiet;
-          fault = c.fault ∙ ap (λ (y : View). least_of p y.tasks.ran) (sym same);
+          fault = least_same t.fault v w (ap (λ (y : View). y.setup) same) (ap (λ (y : View). y.tasks.ran) same) (ap (λ (y : View). y.loops.retired) same) c.fault;
           e = begun_by v.tasks main_spot;
           rest = [];
           is = ap (λ (y : View). y.tasks.running) same ∙ ap (λ (es : List Execution). begun_by v.tasks main_spot ∷ es) none;
           answers = refl;
           done = refl;
           forks = refl;
+          plain = refl;
           frame = sym (ap (λ (y : View). y.tasks.begun) same);
           at_is = refl;
           inside = record_same v w 0 (ap (λ (y : View). y.setup) same) main_inside;

@@ -1,5 +1,5 @@
 -- How a seat stands within a body that it runs.
-use Rattle.std.specs.Prelude.{◌≡◌, ◌≤◌, ◌<◌, ℕ, ◌+◌, ◌*◌, List, [], ◌∷◌, ◌++◌, length, Bool, true, false, Option, Some, None}
+use Rattle.std.specs.Prelude.{◌≡◌, ◌≤◌, ◌<◌, ℕ, suc, ◌+◌, ◌*◌, map, List, [], ◌∷◌, ◌++◌, length, Bool, true, false, Option, Some, None}
 use mathlib.Core.Option.{some}
 use lib.ListN.{get_elem?}
 use Rattle.kt_body.specs.declared.ops.Ended.{Ended}
@@ -12,6 +12,7 @@ use Rattle.kt_prog.specs.Reference.{machine_of}
 use Rattle.kt_prog.specs.Script.{Fault}
 use Rattle.kt_prog.specs.declared.programs.Program.{Program}
 use Rattle.kt_runs.specs.ByPath.{Path, child}
+use Rattle.kt_runs.specs.Loops.{CanBegin}
 use Rattle.kt_words.specs.declared.layouts.TheConstants.{RECORDS}
 use Rattle.kt_rule.specs.declared.views.Setup.{Setup}
 use Rattle.kt_rule.specs.declared.views.Spot.{Spot}
@@ -19,8 +20,9 @@ use Rattle.kt_rule.specs.declared.views.Execution.{Execution}
 use Rattle.kt_rule.specs.declared.views.View.{View}
 use Rattle.kt_rule.specs.Views.{no_draws}
 use Rattle.kt_calls.specs.Ranges.{IsOfCrew, IsRecord}
+use Rattle.kt_intervals.specs.Indexes.{fault_with}
+use Rattle.kt_intervals.specs.Programs.{HasFirsts}
 use Rattle.kt_worker.specs.Faults.{task_of}
-use Rattle.kt_worker.specs.Programs.{HasFirsts}
 
 -- the body of the execution stands where its numbers say, before its end
 pub record IsUnderWay (p : Program) (e : Execution) : Type 0 where
@@ -81,6 +83,8 @@ pub record StandsAt (began : View) (h : Hand) (p : Program) (job : Job) (answers
   pub e : Execution
   pub since : Since began h.view e
   pub way : IsUnderWay p e
+  pub plain : e.looping ≡ false
+  pub none_taken : h.view.loops.taken ≡ []
   pub job_is : job ≡ Whole e.spot.berth.call
   pub answers_are : e.answers ≡ answers
   pub count_is : e.done ≡ count
@@ -96,22 +100,18 @@ pub record StandsAt (began : View) (h : Hand) (p : Program) (job : Job) (answers
   pub draws : h.limit ≡ false → h.view.draws ≡ no_draws
   pub stop : h.limit ≡ true → h.view.seen.stop ≡ true
 
--- the fault with which a body ended
-abbrev pub fault_with : Ended → Option Fault
-fault_with E.Done = None
-fault_with (E.Fault law line) = Some (record { law = law; line = line })
-fault_with E.Halted = None
-
+-- the body did not come to its end
 abbrev pub is_halted : Ended → Bool
 is_halted E.Done = false
 is_halted (E.Fault law line) = false
 is_halted E.Halted = true
 
--- a body has come to its end; its children lie behind the records of the time when it began
-pub record Came (began w : View) (p : Program) (forks : ℕ) (ended : Ended) : Type 0 where
+-- a body has come so far; its children lie behind the records of the time when it began
+pub record Came (began w : View) (forks : ℕ) (far : Execution → Type 0) : Type 0 where
   pub e : Execution
   pub since : Since began w e
-  pub ends : IsAtEnd p e (fault_with ended)
+  pub plain : e.looping ≡ false
+  pub ends : far e
   pub forks_are : e.forks ≡ forks
   pub children : HasChildren w.region.spots (base_of w) (length began.region.spots) e.spot.path forks
   pub long : length w.region.spots ≡ length began.region.spots + forks
@@ -127,6 +127,17 @@ pub record Overran (began w : View) : Type 0 where
 
 -- how a body ended that began where the view was `began`
 abbrev pub GoneSo : View → View → Program → ℕ → Ended → Type 0
-GoneSo began w p forks E.Done = Came began w p forks E.Done
-GoneSo began w p forks (E.Fault law line) = Came began w p forks (E.Fault law line)
+GoneSo began w p forks E.Done = Came began w forks (λ e. IsAtEnd p e None)
+GoneSo began w p forks (E.Fault law line) = Came began w forks (λ e. IsAtEnd p e (fault_with (E.Fault law line)))
 GoneSo began w p forks E.Halted = Overran began w
+
+-- the zeroing of the loop is done, and its indexes can begin
+pub record IsZeroed (p : Program) (e : Execution) : Type 0 where
+  pub way : IsUnderWay p e
+  pub can : CanBegin p (map suc e.spot.path) e.spot.berth.call (task_of p e)
+
+-- how the zeroing of a loop ended that began where the view was `began`
+abbrev pub ZeroedSo : View → View → Program → ℕ → Ended → Type 0
+ZeroedSo began w p forks E.Done = Came began w forks (IsZeroed p)
+ZeroedSo began w p forks (E.Fault law line) = ⊥
+ZeroedSo began w p forks E.Halted = Overran began w

@@ -5,4 +5,5 @@ pub mod Hands
 pub mod Levels
 pub mod Asking
 pub mod Turns
+pub mod Looping
 pub mod Working

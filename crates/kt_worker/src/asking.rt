@@ -10,7 +10,18 @@ ghost use Rattle.kt_worker.specs.Asking.{Asks, Came, IsIdle, Tried};
 use crossbeam_utils::Backoff;
 use kt_calls::{Answer, Lead, Run};
 use kt_ready::Scan;
+use kt_words::Pair;
 use std::sync::Wait;
+
+/// What a worker gets that asked for work.
+#[derive(Clone, Copy, Debug, PartialEq, Eq)]
+pub enum Gotten {
+    Nothing,
+    /// The task of this record.
+    Task(u32),
+    /// A piece of the loop of this record.
+    Piece(u32, Pair),
+}
 
 /// Leads those that ask at a worker, and serves them, if no one else does.
 fn serve_if_free<R: Run>(run: &mut R, scan: &mut Scan, victim: u32)
@@ -55,7 +66,7 @@ pub fn ask<R: Run, W: Wait>(
     scan: &mut Scan,
     victim: u32,
     pause: &Backoff,
-) -> Option<u32>
+) -> Gotten
     requires crew { IsOfCrew (R.view run.old) }
     requires victim { IsWorker (R.view run.old) victim }
     requires idle { IsIdle (R.view run.old) }
@@ -68,10 +79,9 @@ pub fn ask<R: Run, W: Wait>(
     for _ in rt.forever() {
         match try_once(run, scan, victim) {
             Answer::NotYet => pause.snooze(),
-            Answer::Failed => return None,
-            Answer::Task(at) => return Some(at),
-            // of a loop, and the program has none
-            Answer::Piece(_, _) => return None,
+            Answer::Failed => return Gotten::Nothing,
+            Answer::Task(at) => return Gotten::Task(at),
+            Answer::Piece(at, piece) => return Gotten::Piece(at, piece),
             Answer::Withdrawn => unreachable!(),
         }
     }

@@ -1,13 +1,14 @@
 // The body of a task that a worker has begun.
-ghost use Rattle.std.specs.Prelude.{◌≡◌, false, []};
+ghost use Rattle.std.specs.Prelude.{◌≡◌, false, true, []};
+ghost use Rattle.kt_prog.specs.Accepted.{IsAccepted};
 ghost use Rattle.kt_prog.specs.Calls.{Whole};
 ghost use Rattle.kt_prog.specs.Fits.{Fits};
+ghost use Rattle.kt_prog.specs.Operations.{is_loop_at};
 ghost use Rattle.kt_body.specs.Endings.{Begins, EndsSo};
-ghost use Rattle.kt_worker.specs.Hands.{GoneSo, StandsAt};
-ghost use Rattle.kt_worker.specs.Programs.{IsRunnable};
+ghost use Rattle.kt_worker.specs.Hands.{GoneSo, StandsAt, ZeroedSo};
 
 use crate::hands::{Began, Hands};
-use kt_body::{Ended, Ops, run_body};
+use kt_body::{Ended, Ops, run_body, run_zero};
 use kt_calls::Run;
 use kt_law::DEFINITIONS;
 use kt_prog::{Call, Program};
@@ -35,8 +36,8 @@ pub struct Gone<R: Run> {
 
 /// Runs the body of a task or of a kernel.
 fn run_call<O: Ops>(program: &Program, call: &Call, ops: &mut O, tiles: &mut Tiles) -> Ended
-    requires runnable { IsRunnable program.now }
     requires begins { Begins O.at O.goes O.halted program.now (Whole call.now) ops.old }
+    requires plain { is_loop_at program.now call.now.task ≡ false }
     ensures { EndsSo O.at O.goes O.halted program.now (Whole call.now) ops.old ops.new result }
 {
     if call.task > DEFINITIONS {
@@ -47,8 +48,9 @@ fn run_call<O: Ops>(program: &Program, call: &Call, ops: &mut O, tiles: &mut Til
 
 /// Runs the body of the task that the seat has begun last.
 pub fn go<R: Run, B: Began>(run: R, start: Start, tiles: &mut Tiles) -> Gone<R>
-    requires runnable { IsRunnable start.program.now }
+    requires accepted { IsAccepted start.program.now }
     requires fits { Fits start.program.now start.call.now }
+    requires plain { is_loop_at start.program.now start.call.now.task ≡ false }
     requires stands { StandsAt B.view (record { view = R.view run; program = start.program.now; firsts = start.firsts.now; parent = start.parent; first = start.first; forks = 0; frame = start.frame; limit = false }) start.program.now (Whole start.call.now) [] 0 }
     ensures { GoneSo B.view (R.view result.run) start.entry.program.now result.forks result.ended }
 {
@@ -64,6 +66,30 @@ pub fn go<R: Run, B: Began>(run: R, start: Start, tiles: &mut Tiles) -> Gone<R>
         of: PhantomData,
     };
     let ended = run_call(start.program, start.call, &mut hands, tiles);
+    let (run, forks) = hands.taken_apart();
+    Gone { run, ended, forks }
+}
+
+/// Zeroes what the indexes of the loop write that the seat has begun last.
+pub fn zero<R: Run, B: Began>(run: R, start: Start) -> Gone<R>
+    requires accepted { IsAccepted start.program.now }
+    requires fits { Fits start.program.now start.call.now }
+    requires loops { is_loop_at start.program.now start.call.now.task ≡ true }
+    requires stands { StandsAt B.view (record { view = R.view run; program = start.program.now; firsts = start.firsts.now; parent = start.parent; first = start.first; forks = 0; frame = start.frame; limit = false }) start.program.now (Whole start.call.now) [] 0 }
+    ensures { ZeroedSo B.view (R.view result.run) start.entry.program.now result.forks result.ended }
+{
+    let mut hands: Hands<R, B> = Hands {
+        run,
+        program: start.program,
+        firsts: start.firsts,
+        parent: start.parent,
+        first: start.first,
+        forks: 0,
+        frame: start.frame,
+        limit: false,
+        of: PhantomData,
+    };
+    let ended = run_zero(start.program, start.call, &mut hands);
     let (run, forks) = hands.taken_apart();
     Gone { run, ended, forks }
 }

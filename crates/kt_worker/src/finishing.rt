@@ -4,9 +4,9 @@ ghost use Rattle.kt_rule.specs.declared.views.Spot.{Spot};
 ghost use Rattle.kt_tasks.specs.Hands.{IsHeld};
 ghost use Rattle.kt_tasks.specs.Climbs.{HasClimbed};
 ghost use Rattle.kt_calls.specs.Ranges.{IsRecord};
+ghost use Rattle.kt_intervals.specs.Indexes.{fault_with};
 ghost use Rattle.kt_worker.specs.Faults.{fault_at};
-ghost use Rattle.kt_worker.specs.Hands.{fault_with};
-ghost use Rattle.kt_worker.specs.Levels.{Calm, Rises, Turns, raised};
+ghost use Rattle.kt_worker.specs.Levels.{Calm, IsThrough, Rises, Turns, raised};
 
 use crate::stacks::{Level, Stack};
 use crate::workers::Worker;
@@ -56,10 +56,10 @@ fn raise(stack: &mut Stack, own: bool)
     }
 }
 
-/// Finishes a task all of whose children are finished.
+/// Finishes a task all of whose children are finished, or a loop of which no index is left.
 pub fn finish<'a, R: Run>(worker: Worker<'a, R>, stack: &mut Stack, level: Level) -> Worker<'a, R>
     requires calm { Calm (R.view worker.run) worker.program.now worker.tally (level ∷ stack.old.levels) }
-    requires last { level.count ≤ level.next }
+    requires through { IsThrough (R.view worker.run) level }
     requires room { length stack.old.levels ≤ stack.old.room }
     ensures turns { Turns (R.view worker.entry.run) (R.view result.run) worker.entry.program.now result.tally stack.new.levels true }
     ensures room { stack.new.room ≡ stack.old.room }
@@ -74,7 +74,7 @@ pub fn finish<'a, R: Run>(worker: Worker<'a, R>, stack: &mut Stack, level: Level
     } = worker;
     let fault = fault_of(&mut run, &level);
     run.finish(level.at);
-    tally.fault = earlier(tally.fault.take(), fault);
+    tally.fault = earlier(fault, tally.fault.take());
     raise(stack, level.own);
     Worker {
         run,

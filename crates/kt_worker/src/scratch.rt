@@ -2,11 +2,12 @@
 ghost use Rattle.std.specs.Prelude.{◌≡◌, ◌<◌, ◌^◌, IfOk, []};
 ghost use Rattle.kt_prog.specs.Accepted.{IsAccepted};
 ghost use Rattle.kt_prog.specs.Objects.{elements_of, objects_of};
-ghost use Rattle.kt_worker.specs.Programs.{HasFirsts, HasRoom, has_loop};
+ghost use Rattle.kt_intervals.specs.Programs.{HasFirsts};
+ghost use Rattle.kt_worker.specs.Programs.{HasRoom};
 
 use crate::stacks::Stack;
 use kt_law::{NoMemory, TASKS, WORKERS};
-use kt_prog::{Program, Task, first_element, objects};
+use kt_prog::{Program, first_element, objects};
 use kt_ready::Scan;
 use kt_tiles::Tiles;
 use kt_words::RECORDS;
@@ -56,20 +57,4 @@ fn firsts_of(alloc: Global, program: &Program) -> Result<Vec<u32>, NoMemory>
         firsts.push_reserved(first_element(program, object));
     }
     Ok(firsts)
-}
-
-fn any_loop(tasks: &[Task]) -> bool
-    ensures { result ≡ has_loop tasks.now }
-{
-    match tasks {
-        [] => false,
-        [task, tasks @ ..] => task.index.is_some() || any_loop(tasks),
-    }
-}
-
-/// Whether the program declares a loop.
-pub fn has_loops(program: &Program) -> bool
-    ensures { result ≡ has_loop program.now.tasks }
-{
-    any_loop(program.tasks.as_slice())
 }

@@ -20,6 +20,8 @@ pub struct Level {
     pub own: bool,
     /// The next entry was found stolen.
     pub stolen: bool,
+    /// The task is a loop, whose indexes have begun.
+    pub looping: bool,
     pub ended: Ended,
 }
 

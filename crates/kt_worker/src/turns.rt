@@ -1,15 +1,16 @@
 // The turns of a worker.
-ghost use Rattle.std.specs.Prelude.{◌≡◌, ◌≤◌, ◌<◌, ◌+◌, ◌∷◌, [], Some, length};
-ghost use Rattle.kt_rule.specs.declared.views.Setup.{Setup};
-ghost use Rattle.kt_worker.specs.Asking.{WasGiven};
+ghost use Rattle.std.specs.Prelude.{◌≡◌, ◌≤◌, ◌<◌, ◌+◌, ◌∷◌, [], length, true};
+ghost use Rattle.kt_intervals.specs.Programs.{HasFirsts};
+ghost use Rattle.kt_prog.specs.Accepted.{IsAccepted};
 ghost use Rattle.kt_worker.specs.Levels.{Calm, Turns};
-ghost use Rattle.kt_worker.specs.Programs.{HasFirsts, HasRoom, IsRunnable};
+ghost use Rattle.kt_worker.specs.Programs.{HasRoom};
 ghost use Rattle.kt_worker.specs.Turns.{IsAboutToStart};
 
-use crate::asking::ask;
+use crate::asking::{Gotten, ask};
 use crate::beginning::run_begun;
 use crate::finishing::finish;
 use crate::gates::Gate;
+use crate::looping::run_own;
 use crate::scratch::Tools;
 use crate::stacks::Level;
 use crate::workers::Worker;
@@ -26,14 +27,15 @@ fn next_victim(last: u32, workers: u32) -> u32
 }
 
 /// Starts a task that was given, and runs its body; where the run stops by now, the body halts before its first operation.
-fn run_given<'a, R: Run, G: Gate>(
+fn run_given<'a, R: Run, G: Gate, W: Wait>(
+    rt: &W,
     mut worker: Worker<'a, R>,
     tools: &mut Tools,
     gate: &G,
     at: u32,
 ) -> (Worker<'a, R>, bool)
     requires given { IsAboutToStart (R.view worker.run) worker.program.now worker.tally tools.old.stack.levels at }
-    requires runnable { IsRunnable worker.program.now }
+    requires accepted { IsAccepted worker.program.now }
     requires firsts { HasFirsts worker.program.now.families worker.firsts.now }
     requires room { HasRoom worker.program.now tools.old }
     ensures turns { Turns (R.view worker.entry.run) (R.view result.0.run) worker.entry.program.now result.0.tally tools.new.stack.levels result.1 }
@@ -44,7 +46,7 @@ fn run_given<'a, R: Run, G: Gate>(
     if worker.run.stopped() {
         return (worker, false);
     }
-    run_begun(worker, tools, gate, at, false)
+    run_begun(rt, worker, tools, gate, at, false)
 }
 
 /// Asks for work once, and runs what it is given.
@@ -55,7 +57,7 @@ fn steal<'a, R: Run, G: Gate, W: Wait>(
     gate: &G,
 ) -> (Worker<'a, R>, bool)
     requires calm { Calm (R.view worker.run) worker.program.now worker.tally tools.old.stack.levels }
-    requires runnable { IsRunnable worker.program.now }
+    requires accepted { IsAccepted worker.program.now }
     requires firsts { HasFirsts worker.program.now.families worker.firsts.now }
     requires room { HasRoom worker.program.now tools.old }
     ensures turns { Turns (R.view worker.entry.run) (R.view result.0.run) worker.entry.program.now result.0.tally tools.new.stack.levels result.1 }
@@ -72,7 +74,7 @@ fn steal<'a, R: Run, G: Gate, W: Wait>(
     let victim = next_victim(tally.victim, run.workers());
     tally.victim = victim;
     let found = ask(rt, &mut run, &mut tools.scan, victim, pause);
-    let worker = Worker {
+    let mut worker = Worker {
         run,
         program,
         firsts,
@@ -80,13 +82,18 @@ fn steal<'a, R: Run, G: Gate, W: Wait>(
         tally,
     };
     match found {
-        None => {
+        Gotten::Nothing => {
             pause.snooze();
             (worker, true)
         }
-        Some(at) => {
+        Gotten::Task(at) => {
             pause.reset();
-            run_given(worker, tools, gate, at)
+            run_given(rt, worker, tools, gate, at)
+        }
+        Gotten::Piece(at, piece) => {
+            pause.reset();
+            worker.run.take_piece(at, piece);
+            run_own(rt, worker, at)
         }
     }
 }
@@ -100,7 +107,7 @@ fn pause_or_steal<'a, R: Run, G: Gate, W: Wait>(
     gate: &G,
 ) -> (Worker<'a, R>, bool)
     requires calm { Calm (R.view worker.run) worker.program.now worker.tally tools.old.stack.levels }
-    requires runnable { IsRunnable worker.program.now }
+    requires accepted { IsAccepted worker.program.now }
     requires firsts { HasFirsts worker.program.now.families worker.firsts.now }
     requires room { HasRoom worker.program.now tools.old }
     ensures turns { Turns (R.view worker.entry.run) (R.view result.0.run) worker.entry.program.now result.0.tally tools.new.stack.levels result.1 }
@@ -124,7 +131,7 @@ fn run_entry<'a, R: Run, G: Gate, W: Wait>(
 ) -> (Worker<'a, R>, bool)
     requires calm { Calm (R.view worker.run) worker.program.now worker.tally (level ∷ tools.old.stack.levels) }
     requires left { level.next < level.count }
-    requires runnable { IsRunnable worker.program.now }
+    requires accepted { IsAccepted worker.program.now }
     requires firsts { HasFirsts worker.program.now.families worker.firsts.now }
     requires room { HasRoom worker.program.now tools.old }
     ensures turns { Turns (R.view worker.entry.run) (R.view result.0.run) worker.entry.program.now result.0.tally tools.new.stack.levels result.1 }
@@ -138,7 +145,7 @@ fn run_entry<'a, R: Run, G: Gate, W: Wait>(
     match worker.run.claim_own(at) {
         Claim::Won => {
             tools.stack.push(level);
-            run_begun(worker, tools, gate, at, true)
+            run_begun(rt, worker, tools, gate, at, true)
         }
         Claim::Stolen(_) => wait_for(rt, worker, tools, gate, level, at),
     }
@@ -156,7 +163,7 @@ fn wait_for<'a, R: Run, G: Gate, W: Wait>(
     requires calm { Calm (R.view worker.run) worker.program.now worker.tally (level ∷ tools.old.stack.levels) }
     requires left { level.next < level.count }
     requires at { at ≡ worker.tally.base + level.first + level.next }
-    requires runnable { IsRunnable worker.program.now }
+    requires accepted { IsAccepted worker.program.now }
     requires firsts { HasFirsts worker.program.now.families worker.firsts.now }
     requires room { HasRoom worker.program.now tools.old }
     ensures turns { Turns (R.view worker.entry.run) (R.view result.0.run) worker.entry.program.now result.0.tally tools.new.stack.levels result.1 }
@@ -183,6 +190,31 @@ fn wait_for<'a, R: Run, G: Gate, W: Wait>(
     }
 }
 
+/// Looks at a loop that has begun: finishes it where no index of it is left, and else waits for whoever has indexes of it, or asks for work.
+fn wait_for_indexes<'a, R: Run, G: Gate, W: Wait>(
+    rt: &W,
+    mut worker: Worker<'a, R>,
+    tools: &mut Tools,
+    gate: &G,
+    level: Level,
+) -> (Worker<'a, R>, bool)
+    requires calm { Calm (R.view worker.run) worker.program.now worker.tally (level ∷ tools.old.stack.levels) }
+    requires looping { level.looping ≡ true }
+    requires accepted { IsAccepted worker.program.now }
+    requires firsts { HasFirsts worker.program.now.families worker.firsts.now }
+    requires room { HasRoom worker.program.now tools.old }
+    ensures turns { Turns (R.view worker.entry.run) (R.view result.0.run) worker.entry.program.now result.0.tally tools.new.stack.levels result.1 }
+    ensures room { HasRoom worker.entry.program.now tools.new }
+    ensures program { (result.0.program.now ≡ worker.entry.program.now) × (result.0.firsts.now ≡ worker.entry.firsts.now) }
+{
+    if worker.run.left(level.at) == 0 {
+        worker.pause.reset();
+        return (finish(worker, &mut tools.stack, level), true);
+    }
+    tools.stack.push(level);
+    pause_or_steal(rt, worker, tools, gate)
+}
+
 /// Where no frame is under way: the worker has come to its end where `main` is finished, and else asks for work once.
 fn idle<'a, R: Run, G: Gate, W: Wait>(
     rt: &W,
@@ -192,7 +224,7 @@ fn idle<'a, R: Run, G: Gate, W: Wait>(
 ) -> (Worker<'a, R>, bool)
     requires calm { Calm (R.view worker.run) worker.program.now worker.tally tools.old.stack.levels }
     requires none { tools.old.stack.levels ≡ [] }
-    requires runnable { IsRunnable worker.program.now }
+    requires accepted { IsAccepted worker.program.now }
     requires firsts { HasFirsts worker.program.now.families worker.firsts.now }
     requires room { HasRoom worker.program.now tools.old }
     ensures turns { Turns (R.view worker.entry.run) (R.view result.0.run) worker.entry.program.now result.0.tally tools.new.stack.levels result.1 }
@@ -215,7 +247,7 @@ fn go_on<'a, R: Run, G: Gate, W: Wait>(
     gate: &G,
 ) -> (Worker<'a, R>, bool)
     requires calm { Calm (R.view worker.run) worker.program.now worker.tally tools.old.stack.levels }
-    requires runnable { IsRunnable worker.program.now }
+    requires accepted { IsAccepted worker.program.now }
     requires firsts { HasFirsts worker.program.now.families worker.firsts.now }
     requires room { HasRoom worker.program.now tools.old }
     ensures turns { Turns (R.view worker.entry.run) (R.view result.0.run) worker.entry.program.now result.0.tally tools.new.stack.levels result.1 }
@@ -225,7 +257,9 @@ fn go_on<'a, R: Run, G: Gate, W: Wait>(
     match tools.stack.pop() {
         None => idle(rt, worker, tools, gate),
         Some(level) => {
-            if level.next < level.count {
+            if level.looping {
+                wait_for_indexes(rt, worker, tools, gate, level)
+            } else if level.next < level.count {
                 run_entry(rt, worker, tools, gate, level)
             } else {
                 (finish(worker, &mut tools.stack, level), true)
@@ -242,7 +276,7 @@ pub fn turn<'a, R: Run, G: Gate, W: Wait>(
     gate: &G,
 ) -> (Worker<'a, R>, bool)
     requires calm { Calm (R.view worker.run) worker.program.now worker.tally tools.old.stack.levels }
-    requires runnable { IsRunnable worker.program.now }
+    requires accepted { IsAccepted worker.program.now }
     requires firsts { HasFirsts worker.program.now.families worker.firsts.now }
     requires room { HasRoom worker.program.now tools.old }
     ensures turns { Turns (R.view worker.entry.run) (R.view result.0.run) worker.entry.program.now result.0.tally tools.new.stack.levels result.1 }

@@ -1,8 +1,10 @@
 // A worker from its first step to its last.
 ghost use Rattle.std.specs.Prelude.{◌≡◌, ◌≤◌, ◌*◌, ◌==◌, [], None, if◌then◌else◌};
+ghost use Rattle.kt_intervals.specs.Programs.{HasFirsts};
+ghost use Rattle.kt_prog.specs.Accepted.{IsAccepted};
 ghost use Rattle.kt_words.specs.declared.layouts.TheConstants.{RECORDS};
 ghost use Rattle.kt_worker.specs.Levels.{Calm, Ends, Extends, Turns};
-ghost use Rattle.kt_worker.specs.Programs.{HasFirsts, HasRoom, IsRunnable};
+ghost use Rattle.kt_worker.specs.Programs.{HasRoom};
 ghost use Rattle.kt_worker.specs.Working.{IsFresh};
 
 use crate::beginning::run_begun;
@@ -17,7 +19,7 @@ use kt_prog::{FaultAt, Program};
 use kt_words::RECORDS;
 use std::sync::Wait;
 
-/// A seat whose worker has ended, and the least fault that it met.
+/// A seat whose worker has ended, and the first fault that it met.
 pub struct Worked<R: Run> {
     pub run: R,
     pub fault: Option<FaultAt>,
@@ -45,7 +47,8 @@ pub fn tally_of(worker: u32) -> Tally
 }
 
 /// The first turn: the worker in whose region `main` lies claims it and runs its body.
-pub fn first_turn<'a, R: Run, G: Gate>(
+pub fn first_turn<'a, R: Run, G: Gate, W: Wait>(
+    rt: &W,
     mut worker: Worker<'a, R>,
     tools: &mut Tools,
     gate: &G,
@@ -53,7 +56,7 @@ pub fn first_turn<'a, R: Run, G: Gate>(
     requires calm { Calm (R.view worker.run) worker.program.now worker.tally [] }
     requires fresh { IsFresh (R.view worker.run) worker.program.now }
     requires empty { tools.old.stack.levels ≡ [] }
-    requires runnable { IsRunnable worker.program.now }
+    requires accepted { IsAccepted worker.program.now }
     requires firsts { HasFirsts worker.program.now.families worker.firsts.now }
     requires room { HasRoom worker.program.now tools.old }
     ensures turns { Turns (R.view worker.entry.run) (R.view result.0.run) worker.entry.program.now result.0.tally tools.new.stack.levels result.1 }
@@ -64,7 +67,7 @@ pub fn first_turn<'a, R: Run, G: Gate>(
         return (worker, true);
     }
     match worker.run.claim_own(0) {
-        Claim::Won => run_begun(worker, tools, gate, 0, false),
+        Claim::Won => run_begun(rt, worker, tools, gate, 0, false),
         Claim::Stolen(_) => (worker, true),
     }
 }
@@ -94,12 +97,12 @@ pub fn work<R: Run, G: Gate, W: Wait>(
     scratch: &mut Scratch,
 ) -> Worked<R>
     requires fresh { IsFresh (R.view run) program.now }
-    requires runnable { IsRunnable program.now }
+    requires accepted { IsAccepted program.now }
     requires empty { scratch.old.tools.stack.levels ≡ [] }
     requires firsts { HasFirsts program.now.families scratch.old.firsts.items }
     requires room { HasRoom program.now scratch.old.tools }
     ensures seat { Extends (R.view run) (R.view result.run) }
-    ensures ends { Ends (R.view result.run) program.now result.fault }
+    ensures ends { Ends (R.view result.run) result.fault }
 {
     let Scratch { tools, firsts } = scratch;
     let pause = Backoff::new();
@@ -111,7 +114,7 @@ pub fn work<R: Run, G: Gate, W: Wait>(
         pause: &pause,
         tally,
     };
-    let (mut worker, mut more) = first_turn(worker, tools, gate);
+    let (mut worker, mut more) = first_turn(rt, worker, tools, gate);
     for _ in rt.forever() {
         if !more {
             return let_go(worker);

@@ -13,7 +13,7 @@ pub send_out-requires-after_bounds : goal.send_out-requires-after_bounds
 send_out-requires-after_bounds g c κs within =
     let j = setup_of c.args.program.now c.args.input.now c.args.workers in let p = c.args.program.now in let pool = c.in_ok-pool.ensures in (
       j,
-      record { program = refl; runnable = c.requires.runnable; few = c.requires.few },
+      record { program = refl; accepted = c.requires.accepted; few = c.requires.few },
       subst (λ (t : RunTable). AreJobs j t p c.in_ok-jobs.jobs.items) (sym c.table.ensures)
           (all_jobs j (run_table c.in_ok-pool.pool) p c.in_ok-pool.seats.items c.in_ok-jobs.jobs.items c.in_ok-jobs.ensures.seats c.in_ok-jobs.ensures.ready pool.seats pool.views),
     )
@@ -46,7 +46,7 @@ returns-clause-ran g c =
     (c.in_ok-done.ensures j (subst (λ (t : RunTable). AreJobs j t p c.in_ok-jobs.jobs.items) (sym c.table.ensures) jobs)) in
     let some = c.requires.some in let live : 0 < j.workers = omega arith in
     let back = subst (AreSeatsOf j t) (sym c.gather-seats.ensures.seats) (all_back j t p done live all) in
-    let h = closed_so j t p done c.gather-seats.result.0.items closed v c.gather-seats.ensures.seats refl c.requires.runnable live all c.close-closed.ensures.lists
+    let h = closed_so j t p done c.gather-seats.result.0.items closed v c.gather-seats.ensures.seats refl c.requires.accepted live all c.close-closed.ensures.lists
     (c.close-closed.ensures.limited j back) (c.close-closed.ensures.whole j back) in
     c.ran_of.ensures ∙ (ap (comes_to closed) c.gather-seats.ensures.fault ∙ is_outcome c.earlier_is_first.ensures c.first_is_answer.ensures j t p done closed v h)
 
@@ -59,7 +59,7 @@ returns-clause-once g c = λ ne.
     (c.in_ok-done.ensures j (subst (λ (t : RunTable). AreJobs j t p c.in_ok-jobs.jobs.items) (sym c.table.ensures) jobs)) in
     let some = c.requires.some in let live : 0 < j.workers = omega arith in
     let back = subst (AreSeatsOf j t) (sym c.gather-seats.ensures.seats) (all_back j t p done live all) in
-    let h = closed_so j t p done c.gather-seats.result.0.items closed v c.gather-seats.ensures.seats refl c.requires.runnable live all c.close-closed.ensures.lists
+    let h = closed_so j t p done c.gather-seats.result.0.items closed v c.gather-seats.ensures.seats refl c.requires.accepted live all c.close-closed.ensures.lists
     (c.close-closed.ensures.limited j back) (c.close-closed.ensures.whole j back) in
     is_exact c.earlier_is_first.ensures c.first_is_answer.ensures j t p done closed v h
     (λ e. ne (ap (λ (r : Ran). r.outcome) (c.ran_of.ensures ∙ ap (comes_to closed) c.gather-seats.ensures.fault) ∙ e))

@@ -1,6 +1,4 @@
-use Rattle.std.proofs.Common.{◌≡◌, ◌≤◌, Some, sym, subst, ap, ◌∙◌, refl, inl, inr}
-use Rattle.kt_rule.specs.declared.views.Setup.{Setup}
-use Rattle.kt_prog.specs.Objects.{objects_of}
+use Rattle.std.proofs.Common.{sym, ◌∙◌, refl}
 use Rattle.kt_posts.specs.declared.answers.Answer.TheVariants as A
 use Rattle.kt_worker.proofs.Requests.{posted, tried_both, crew_learnt, worker_learnt, promised_learnt, setup_of, idle_asks}
 use Rattle.kt_worker.proofs.asking.ask.Goals as goal
@@ -35,12 +33,10 @@ loop-preserved g c =
     )
 
 pub returns-in-Failed-clause-came : goal.returns-in-Failed-clause-came
-returns-in-Failed-clause-came g c = let t = tried_both _ _ _ A.Failed c.loop.invariant.2 (c.in-Failed.ensures {u = tt}).tried in
-    (t.0, t.1, inl t.2)
+returns-in-Failed-clause-came g c = tried_both _ _ _ A.Failed c.loop.invariant.2 (c.in-Failed.ensures {u = tt}).tried
 
 pub returns-in-Task-clause-came : goal.returns-in-Task-clause-came
 returns-in-Task-clause-came g c = tried_both _ _ _ (A.Task _) c.loop.invariant.2 (c.in-Task.ensures {u = tt}).tried
 
 pub returns-in-Piece-clause-came : goal.returns-in-Piece-clause-came
-returns-in-Piece-clause-came g c = let t = tried_both _ _ _ (A.Piece _ _) c.loop.invariant.2 (c.in-Piece.ensures {u = tt}).tried in
-    (t.0, t.1, inr (t.2.piece, t.2.is))
+returns-in-Piece-clause-came g c = tried_both _ _ _ (A.Piece _ _) c.loop.invariant.2 (c.in-Piece.ensures {u = tt}).tried

@@ -1,4 +1,3 @@
-use Rattle.std.proofs.Common.{◌≡◌, ℕ}
 use Rattle.kt_ready.specs.Contents.{HasRoomOf}
 use Rattle.kt_worker.specs.Asking.{Asks}
 use Rattle.kt_worker.proofs.asking.ask.Given as goal

@@ -1,4 +1,4 @@
-use Rattle.std.proofs.Common.{◌≡◌, ap, ◌∙◌, refl}
+use Rattle.std.proofs.Common.{◌∙◌}
 use Rattle.kt_worker.proofs.Requests.{settled, tried_both, crew_learnt}
 use Rattle.kt_worker.proofs.asking.try_once.Goals as goal
 
@@ -12,4 +12,4 @@ pub returns-clause-tried : goal.returns-clause-tried
 returns-clause-tried g c =
     let a = c.serve_if_free.ensures.served in
     tried_both _ _ _ c.look.result a
-    (settled _ _ c.look.ensures.looked.0 c.look.result (a.given ∙ c.requires.given) a.free a.leads c.look.ensures.inside c.look.ensures.looked.2)
+    (settled _ _ c.look.ensures.looked.0 c.look.result (a.given ∙ c.requires.given) a.free a.leads c.look.ensures.inside c.look.ensures.piece_inside c.look.ensures.looked.2)

@@ -1,12 +1,10 @@
-use Rattle.std.proofs.Common.{◌≡◌, refl, ap, sym, subst}
 use Rattle.kt_prog.specs.Calls.{Whole}
-use Rattle.kt_worker.specs.Hands.{Hand}
 use Rattle.kt_worker.proofs.Stands.{gone}
 use Rattle.kt_worker.proofs.body.go.Goals as goal
 
 pub run_call-ended-requires-clause-begins : goal.run_call-ended-requires-clause-begins
 run_call-ended-requires-clause-begins g c = record {
-  accepted = c.requires.runnable.accepted;
+  accepted = c.requires.accepted;
   fits = c.requires.fits;
   stands = c.requires.stands;
   running = λ e. cc;

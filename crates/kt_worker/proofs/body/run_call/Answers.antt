@@ -1,9 +1,8 @@
-use Rattle.std.proofs.Common.{◌≡◌, ◌≤◌, arith}
-use Rattle.kt_worker.proofs.Runnable.{no_loop_at}
+use Rattle.std.proofs.Common.{arith}
 use Rattle.kt_worker.proofs.body.run_call.Goals as goal
 
 pub run_body-requires-clause-task : goal.run_body-requires-clause-task
 run_body-requires-clause-task g c = record {
-  no_loop = no_loop_at c.args.program.now c.args.call.now.task c.requires.runnable.no_loop;
+  no_loop = c.requires.plain;
   no_kernel = let small = c.if-call-gt-DEFINITIONS.false in grind arith;
 }

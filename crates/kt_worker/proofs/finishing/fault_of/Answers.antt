@@ -1,9 +1,7 @@
-use Rattle.std.proofs.Common.{◌≡◌, ap, ◌∙◌, refl, sym, List, ℕ, Option, Some, None}
-use Rattle.kt_prog.specs.Runs.{FaultRun}
-use Rattle.kt_runs.specs.ByPath.{Path}
+use Rattle.std.proofs.Common.{ap, ◌∙◌, sym, List, ℕ, Some, None}
 use Rattle.kt_body.specs.declared.ops.Ended.{Ended}
 use Rattle.kt_worker.specs.Faults.{fault_at}
-use Rattle.kt_worker.specs.Hands.{fault_with}
+use Rattle.kt_intervals.specs.Indexes.{fault_with}
 use Rattle.kt_worker.proofs.finishing.fault_of.Goals as goal
 
 pub returns-in-Fault-clause-fault : goal.returns-in-Fault-clause-fault

@@ -1,5 +1,4 @@
-use Rattle.std.proofs.Common.{◌≡◌, ◌≤◌, ◌<◌, ◌+◌, List, length, ap, ◌∙◌, refl, sym, subst, arith}
-use Rattle.kt_law.specs.declared.limits.TheConstants.{TASKS, WORKERS}
+use Rattle.std.proofs.Common.{List, ◌∙◌, subst, arith}
 use Rattle.kt_worker.specs.Levels.{Calm}
 use Rattle.kt_worker.specs.declared.stacks.Level.{Level}
 use Rattle.kt_worker.proofs.Turning.{below_few}

@@ -1,4 +1,3 @@
-use Rattle.std.proofs.Common.{◌≡◌, ◌<◌, ◌*◌, ap, ◌∙◌, refl, sym, subst, arith}
 use Rattle.kt_worker.proofs.Turning.{calm_stands, idle_ends, idle_inside, turns_after}
 use Rattle.kt_worker.proofs.turns.idle.Goals as goal
 

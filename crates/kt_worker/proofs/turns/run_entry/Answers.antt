@@ -1,4 +1,4 @@
-use Rattle.std.proofs.Common.{◌≡◌, ◌<◌, ◌≤◌, ◌+◌, ◌*◌, ap, ◌∙◌, refl, sym, subst, arith, true}
+use Rattle.std.proofs.Common.{ap, refl, arith}
 use Rattle.kt_worker.specs.Stacks.{Frames}
 use Rattle.kt_worker.proofs.Turning.{below_few, begun_own, calm_crew, calm_lost, entry_inside, entry_small, may_claim, turns_after}
 use Rattle.kt_worker.proofs.turns.run_entry.Goals as goal

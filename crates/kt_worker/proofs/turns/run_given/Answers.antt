@@ -1,4 +1,3 @@
-use Rattle.std.proofs.Common.{◌≡◌, true, false, ap, ◌∙◌, refl, sym, subst}
 use Rattle.kt_worker.proofs.Turning.{begun_goes, begun_stops, start_crew, start, start_inside, turns_after}
 use Rattle.kt_worker.proofs.turns.run_given.Goals as goal
 

@@ -1,4 +1,3 @@
-use Rattle.std.proofs.Common.{◌≡◌, ap, ◌∙◌, refl, sym, subst, true, false}
 use Rattle.kt_worker.proofs.Turning.{calm_stop, stops, turns_after}
 use Rattle.kt_worker.proofs.turns.turn.Goals as goal
 

@@ -1,4 +1,4 @@
-use Rattle.std.proofs.Common.{◌≡◌, ◌<◌, ◌≤◌, ◌+◌, ◌*◌, ap, ◌∙◌, refl, sym, subst, arith, true}
+use Rattle.std.proofs.Common.{ap, true}
 use Rattle.kt_worker.specs.Stacks.{Frames}
 use Rattle.kt_worker.proofs.Turning.{below_few, calm_stands, calm_stolen, entry_inside, passed, turns_after}
 use Rattle.kt_worker.proofs.turns.wait_for.Goals as goal

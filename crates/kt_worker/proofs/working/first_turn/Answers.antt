@@ -1,6 +1,4 @@
-use Rattle.std.proofs.Common.{◌≡◌, ap, ◌∙◌, refl, sym, subst, List, []}
-use Rattle.kt_rule.specs.declared.views.View.{View}
-use Rattle.kt_worker.specs.Levels.{Calm, Extends}
+use Rattle.std.proofs.Common.{[]}
 use Rattle.kt_worker.proofs.Begun.{extends_same}
 use Rattle.kt_worker.proofs.Turning.{begun_main, calm_crew, calm_stands, main_inside, may_claim_main, turns_after}
 use Rattle.kt_worker.proofs.working.first_turn.Goals as goal

@@ -1,7 +1,7 @@
-use Rattle.std.proofs.Common.{rules, ◌≡◌, ◌≤◌, ◌+◌, ℕ, List, ap, ◌∙◌, refl, sym, subst, arith, true, false}
+use Rattle.std.proofs.Common.{rules, ℕ, List, ◌∙◌, sym, subst}
 use Rattle.kt_prog.specs.declared.programs.Program.{Program}
 use Rattle.kt_worker.specs.Levels.{Calm, Turns}
-use Rattle.kt_worker.specs.Programs.{HasFirsts, HasRoom, IsRunnable}
+use Rattle.kt_intervals.specs.Programs.{HasFirsts}
 use Rattle.kt_worker.proofs.Turning.{calm_fresh, calm_of, ends_of, turns_after}
 use Rattle.kt_worker.proofs.working.work.Goals as goal
 
@@ -24,7 +24,7 @@ turn-next-requires g c =
     let calm = calm_of (g.R.Run.view c.args.run) (g.R.Run.view c.loop.worker.run) c.args.program.now c.loop.worker.tally c.loop.tools.stack.levels c.loop.more c.if-not-more.false i.2 in
     record {
       calm = subst (λ (p : Program). Calm (g.R.Run.view c.loop.worker.run) p c.loop.worker.tally c.loop.tools.stack.levels) (sym i.3) calm.0;
-      runnable = rw i.3 c.requires.runnable;
+      accepted = rw i.3 c.requires.accepted;
       firsts = rw i.3 i.4;
       room = rw i.3 i.5;
     }

@@ -1,6 +1,7 @@
 use Rattle.std.proofs.Common.{◌≡◌}
 use Rattle.kt_worker.specs.Levels.{Turns}
-use Rattle.kt_worker.specs.Programs.{HasFirsts, HasRoom}
+use Rattle.kt_intervals.specs.Programs.{HasFirsts}
+use Rattle.kt_worker.specs.Programs.{HasRoom}
 use Rattle.kt_worker.proofs.working.work.Given as goal
 
 abbrev pub invariant-loop : goal.invariant-loop

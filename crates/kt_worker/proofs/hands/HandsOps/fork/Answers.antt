@@ -1,4 +1,4 @@
-use Rattle.std.proofs.Common.{◌≡◌, ◌≤◌, ◌<◌, ℕ, ◌+◌, ap, ◌∙◌, sym, refl, arith}
+use Rattle.std.proofs.Common.{refl, arith}
 use Rattle.kt_worker.proofs.Stands.{may_publish, forked_at, overran_at}
 use Rattle.kt_worker.proofs.hands.HandsOps.fork.Goals as goal
 

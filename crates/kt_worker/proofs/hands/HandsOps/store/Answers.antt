@@ -1,11 +1,10 @@
 -- The element is there, since the operation is next in a body of an accepted program.
-use Rattle.std.proofs.Common.{◌≡◌, ◌<◌, ℕ, ◌+◌, ap, ◌∙◌, sym, refl, arith, subst}
+use Rattle.std.proofs.Common.{ℕ, ◌+◌, ap, arith}
 use Rattle.kt_law.specs.Acts.{Store}
-use Rattle.kt_law.specs.declared.limits.TheConstants.{ELEMENTS}
-use Rattle.kt_prog.specs.Objects.{first_element_of}
 use Rattle.kt_prog.specs.declared.runs.Operation.TheVariants as O
 use Rattle.kt_prog.proofs.OnElements.{next_is_on_element}
-use Rattle.kt_worker.proofs.Stands.{placed, due_on, element_inside, acted}
+use Rattle.kt_intervals.proofs.Acts.{placed}
+use Rattle.kt_worker.proofs.Stands.{next_on, element_inside, acted}
 use Rattle.kt_worker.proofs.hands.HandsOps.store.Goals as goal
 
 pub bounds-self-object : goal.bounds-self-object
@@ -30,7 +29,7 @@ store-requires g c =
     let is = ap (λ (n : ℕ). n + c.args.element) here.first in
     record {
       inside = element_inside _ _ r.program r.job r.answers r.count r.stands _ (let number = here.number in omega (arith, number, is));
-      next = due_on _ _ r.program r.job r.answers r.count r.stands _ c.args.object c.args.element (Store c.args.value) is (r.next 0);
+      next = next_on _ _ r.program r.job r.answers r.count r.stands _ c.args.object c.args.element (Store c.args.value) is (r.next 0);
     }
 
 pub returns : goal.returns

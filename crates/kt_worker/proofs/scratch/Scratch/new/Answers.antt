@@ -1,5 +1,4 @@
-use Rattle.std.proofs.Common.{◌≡◌, ◌≤◌, ◌<◌, ◌^◌, arith}
-use Rattle.kt_law.specs.declared.limits.TheConstants.{OBJECTS, ELEMENTS}
+use Rattle.std.proofs.Common.{arith}
 use Rattle.kt_prog.proofs.Plain.{few_objects}
 use Rattle.kt_worker.proofs.scratch.Scratch.new.Goals as goal
 
