@@ -3,6 +3,7 @@ use Rattle.std.proofs.Common.{◌≡◌, ◌≢◌, ◌≤◌, ◌<◌, ◌⊎�
 use Rattle.std.proofs.lemmas.List.Elements.{All-drop, All-from_get_or, All-get_or}
 use Rattle.std.proofs.lemmas.Option.{slice_get-get_or}
 use Rattle.kt_law.specs.declared.limits.TheConstants.{WORKERS}
+use Rattle.kt_prog.specs.Accepted.{IsAccepted}
 use Rattle.kt_prog.specs.Objects.{objects_of}
 use Rattle.kt_prog.specs.declared.programs.Program.{Program}
 use Rattle.kt_ready.specs.Contents.{HasRoomOf}
@@ -31,7 +32,8 @@ use Rattle.kt_calls.specs.Serving.{Serves}
 use Rattle.kt_pool.specs.Seats.{AreSeatsOf, HaveNotStepped, IsSeatOf, view_at_start}
 use Rattle.kt_worker.specs.Asking.{Asks, Tried}
 use Rattle.kt_worker.specs.Levels.{Calm, Turns}
-use Rattle.kt_worker.specs.Programs.{HasFirsts, HasRoom, IsRunnable}
+use Rattle.kt_intervals.specs.Programs.{HasFirsts}
+use Rattle.kt_worker.specs.Programs.{HasRoom}
 use Rattle.kt_worker.specs.Working.{IsFresh}
 use Rattle.kt_worker.specs.declared.scratch.Tools.{Tools}
 use Rattle.kt_worker.specs.declared.stacks.Level.{Level}
@@ -58,6 +60,7 @@ fresh_at j zero below few = record {
   draws = refl;
   free = refl;
   leads = refl;
+  loops = refl;
 }
 fresh_at j (suc k) below few = record {
   setup = j;
@@ -72,6 +75,7 @@ fresh_at j (suc k) below few = record {
   draws = refl;
   free = refl;
   leads = refl;
+  loops = refl;
 }
 
 pub fresh : (t : RunTable) (p : Program) (s : Seat) → IsUnmoved t p s → IsFresh s.token.me.0 p
@@ -86,7 +90,7 @@ at_stage v p t levels s s' e h = subst (Stands v p t levels) e h
 pub equipped_same : (p p' : Program) (firsts firsts' : List ℕ) (tools tools' : Tools) → p' ≡ p → firsts' ≡ firsts → HasRoom p tools' → IsEquipped p firsts tools
     → IsEquipped p' firsts' tools'
 equipped_same p p' firsts firsts' tools tools' e f room q = record {
-  runnable = subst IsRunnable (sym e) q.runnable;
+  accepted = subst IsAccepted (sym e) q.accepted;
   firsts = subst (λ (r : Program). HasFirsts r.families firsts') (sym e) (subst (HasFirsts p.families) (sym f) q.firsts);
   room = subst (λ (r : Program). HasRoom r tools') (sym e) room;
 }
@@ -151,16 +155,16 @@ module _ (v : View) (p : Program) (t : Tally) (levels : List Level) (h : Leads v
 pub answered : (v w : View) (p : Program) (t : Tally) (levels : List Level) (a : Answer) → Calm v p t levels → Tried v w a → Stands w p t levels (stage_of a)
 answered v w p t levels A.NotYet c h = record { before = v; calm = c; asks = h }
 answered v w p t levels A.Withdrawn c h = tt
-answered v w p t levels A.Failed c h = (calm_answered v w p t levels h.0 h.1 c).0
-answered v w p t levels (A.Task at) c h = record { before = v; calm = c; answered = h.0; given = h.1 }
-answered v w p t levels (A.Piece at piece) c h = tt
+answered v w p t levels A.Failed c h = (calm_answered v w p t levels h.0 h.1 h.2 c).0
+answered v w p t levels (A.Task at) c h = record { before = v; calm = c; answered = h.0; given = h.1; pieces = h.2 }
+answered v w p t levels (A.Piece at pair) c h = record { before = v; calm = c; answered = h.0; none = h.1; given = h.2 }
 
 -- ENTRIES
 
 pub equipped_with : (p : Program) (firsts : List ℕ) (tools tools' : Tools) → tools'.stack.room ≡ tools.stack.room → tools'.scan.objects ≡ tools.scan.objects
     → tools'.scan.entries ≡ tools.scan.entries → IsEquipped p firsts tools → IsEquipped p firsts tools'
 equipped_with p firsts tools tools' room objects entries q = record {
-  runnable = q.runnable;
+  accepted = q.accepted;
   firsts = q.firsts;
   room = record { stack = room ∙ q.room.stack; objects = rw objects q.room.objects; entries = rw entries q.room.entries };
 }

@@ -1,6 +1,7 @@
 -- How a worker stands that is driven step by step.
 use Rattle.std.specs.Prelude.{◌≡◌, ◌<◌, ◌≤◌, ℕ, List, []}
 use Rattle.kt_law.specs.declared.limits.TheConstants.{WORKERS}
+use Rattle.kt_prog.specs.Accepted.{IsAccepted}
 use Rattle.kt_prog.specs.declared.programs.Program.{Program}
 use Rattle.kt_words.specs.declared.layouts.TheConstants.{RECORDS}
 use Rattle.kt_rule.specs.declared.seats.Seat.{Seat}
@@ -14,8 +15,9 @@ use Rattle.kt_posts.specs.declared.answers.Answer.TheVariants as A
 use Rattle.kt_steps.specs.Told.{IsNotedReady}
 use Rattle.kt_worker.specs.Asking.{Asks}
 use Rattle.kt_worker.specs.Levels.{Calm, HasBegun}
-use Rattle.kt_worker.specs.Programs.{HasFirsts, HasRoom, IsRunnable}
-use Rattle.kt_worker.specs.Turns.{IsAboutToStart}
+use Rattle.kt_intervals.specs.Programs.{HasFirsts}
+use Rattle.kt_worker.specs.Programs.{HasRoom}
+use Rattle.kt_worker.specs.Turns.{HasPiece, IsAboutToStart}
 use Rattle.kt_worker.specs.Working.{IsFresh}
 use Rattle.kt_worker.specs.declared.scratch.Tools.{Tools}
 use Rattle.kt_worker.specs.declared.stacks.Level.{Level}
@@ -25,7 +27,7 @@ use Rattle.kt_pool_trials.specs.declared.stages.Stage.TheVariants as S
 
 -- what a worker takes along
 pub record IsEquipped (p : Program) (numbers : List ℕ) (tools : Tools) : Type 0 where
-  pub runnable : IsRunnable p
+  pub accepted : IsAccepted p
   pub firsts : HasFirsts p.families numbers
   pub room : HasRoom p tools
 
@@ -47,6 +49,7 @@ Stands v p t levels S.Resting = Calm v p t levels
 Stands v p t levels S.Asking = HasAsked v p t levels
 Stands v p t levels S.Leading = Leads v p t levels
 Stands v p t levels (S.Given at) = IsAboutToStart v p t levels at
+Stands v p t levels (S.Piece at pair) = HasPiece v p t levels at pair
 Stands v p t levels (S.Begun at own) = HasBegun v p t levels at own
 Stands v p t levels (S.Noted at x) = Calm v p t levels × IsNotedReady v at x × (at < RECORDS)
 Stands v p t levels S.Over = Unit {0}
@@ -57,7 +60,7 @@ stage_of A.NotYet = S.Asking
 stage_of A.Withdrawn = S.Over
 stage_of A.Failed = S.Resting
 stage_of (A.Task at) = S.Given at
-stage_of (A.Piece at piece) = S.Over
+stage_of (A.Piece at pair) = S.Piece at pair
 
 pub record IsDriven (v : View) (p : Program) (firsts : List ℕ) (t : Tally) (tools : Tools) (stage : Stage) : Type 0 where
   pub equipped : IsEquipped p firsts tools

@@ -14,6 +14,7 @@ use kt_prog::Program;
 use kt_rule::{RunTable, Seat};
 use kt_worker::{NoGate, Tools, Worker, first_turn, run_begun, tally_of};
 use std::marker::PhantomData;
+use std::sync::Wait;
 
 /// A worker, the room that it takes, and where it stands.
 pub struct Driven<'a, 't, H: Home> {
@@ -105,7 +106,7 @@ fn turned<'a, 't, H: Home>(
 }
 
 /// The first turn.
-pub fn begins<'a, 't, H: Home>(driven: Driven<'a, 't, H>) -> Driven<'a, 't, H>
+pub fn begins<'a, 't, H: Home, W: Wait>(rt: &W, driven: Driven<'a, 't, H>) -> Driven<'a, 't, H>
     requires { IsDriven driven.worker.run.hand.seat.token.me.0 driven.worker.program.now driven.worker.firsts.now driven.worker.tally driven.tools driven.stage }
     ensures { IsDriven result.worker.run.hand.seat.token.me.0 result.worker.program.now result.worker.firsts.now result.worker.tally result.tools result.stage }
 {
@@ -116,7 +117,7 @@ pub fn begins<'a, 't, H: Home>(driven: Driven<'a, 't, H>) -> Driven<'a, 't, H>
     } = driven;
     match stage {
         Stage::New => {
-            let (worker, more) = first_turn(worker, &mut tools, &NoGate);
+            let (worker, more) = first_turn(rt, worker, &mut tools, &NoGate);
             turned(worker, tools, more)
         }
         _ => Driven {
@@ -260,8 +261,7 @@ fn stage_of(answer: Answer) -> Stage
         Answer::Withdrawn => Stage::Over,
         Answer::Failed => Stage::Resting,
         Answer::Task(at) => Stage::Given(at),
-        // of a loop, and the program has none
-        Answer::Piece(_, _) => Stage::Over,
+        Answer::Piece(at, pair) => Stage::Piece(at, pair),
     }
 }
 
@@ -293,7 +293,7 @@ pub fn starts<'a, 't, H: Home>(driven: Driven<'a, 't, H>) -> Driven<'a, 't, H>
 }
 
 /// Runs the body of the task that it has begun.
-pub fn runs<'a, 't, H: Home>(driven: Driven<'a, 't, H>) -> Driven<'a, 't, H>
+pub fn runs<'a, 't, H: Home, W: Wait>(rt: &W, driven: Driven<'a, 't, H>) -> Driven<'a, 't, H>
     requires { IsDriven driven.worker.run.hand.seat.token.me.0 driven.worker.program.now driven.worker.firsts.now driven.worker.tally driven.tools driven.stage }
     ensures { IsDriven result.worker.run.hand.seat.token.me.0 result.worker.program.now result.worker.firsts.now result.worker.tally result.tools result.stage }
 {
@@ -304,7 +304,7 @@ pub fn runs<'a, 't, H: Home>(driven: Driven<'a, 't, H>) -> Driven<'a, 't, H>
     } = driven;
     match stage {
         Stage::Begun(at, own) => {
-            let (worker, more) = run_begun(worker, &mut tools, &NoGate, at, own);
+            let (worker, more) = run_begun(rt, worker, &mut tools, &NoGate, at, own);
             turned(worker, tools, more)
         }
         _ => Driven {

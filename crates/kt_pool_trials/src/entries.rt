@@ -1,5 +1,5 @@
 // What a driven worker does with the entries of its topmost frame.
-ghost use Rattle.std.specs.Prelude.{◌≡◌, ◌<◌, ◌∷◌};
+ghost use Rattle.std.specs.Prelude.{◌≡◌, ◌<◌, ◌∷◌, true};
 ghost use Rattle.kt_worker.specs.Levels.{Calm};
 ghost use Rattle.kt_pool_trials.specs.Driven.{IsDriven, IsEquipped};
 
@@ -141,7 +141,7 @@ fn passes_next<'a, 't, H: Home>(
     }
 }
 
-/// Finishes the task of the topmost frame, if all its entries are known finished.
+/// Finishes the task of the topmost frame, if all its entries are known finished, or it is a loop of which no index is left.
 pub fn finishes<'a, 't, H: Home>(driven: Driven<'a, 't, H>) -> Driven<'a, 't, H>
     requires { IsDriven driven.worker.run.hand.seat.token.me.0 driven.worker.program.now driven.worker.firsts.now driven.worker.tally driven.tools driven.stage }
     ensures { IsDriven result.worker.run.hand.seat.token.me.0 result.worker.program.now result.worker.firsts.now result.worker.tally result.tools result.stage }
@@ -177,6 +177,9 @@ fn finishes_top<'a, 't, H: Home>(
     requires calm { Calm worker.run.hand.seat.token.me.0 worker.program.now worker.tally (level ∷ tools.stack.levels) }
     ensures { IsDriven result.worker.run.hand.seat.token.me.0 result.worker.program.now result.worker.firsts.now result.worker.tally result.tools result.stage }
 {
+    if level.looping {
+        return finishes_loop(worker, tools, level);
+    }
     if level.next < level.count {
         tools.stack.push(level);
         return Driven {
@@ -186,6 +189,33 @@ fn finishes_top<'a, 't, H: Home>(
         };
     }
     let worker = finish(worker, &mut tools.stack, level);
+    Driven {
+        worker,
+        tools,
+        stage: Stage::Resting,
+    }
+}
+
+// A loop is finished by what is left of it alone.
+fn finishes_loop<'a, 't, H: Home>(
+    mut worker: Worker<'a, Recorder<'t, H>>,
+    mut tools: Tools,
+    level: Level,
+) -> Driven<'a, 't, H>
+    requires equipped { IsEquipped worker.program.now worker.firsts.now tools }
+    requires calm { Calm worker.run.hand.seat.token.me.0 worker.program.now worker.tally (level ∷ tools.stack.levels) }
+    requires looping { level.looping ≡ true }
+    ensures { IsDriven result.worker.run.hand.seat.token.me.0 result.worker.program.now result.worker.firsts.now result.worker.tally result.tools result.stage }
+{
+    if worker.run.left(level.at) == 0 {
+        let worker = finish(worker, &mut tools.stack, level);
+        return Driven {
+            worker,
+            tools,
+            stage: Stage::Resting,
+        };
+    }
+    tools.stack.push(level);
     Driven {
         worker,
         tools,

@@ -14,14 +14,14 @@ ghost use Rattle.kt_tasks.specs.Accesses.{IsLookedAt, found_of};
 ghost use Rattle.kt_tasks.specs.Claims.{ClaimedFor};
 
 use arrayvec::ArrayVec;
-use kt_calls::{Answer, Claim, Lead, Published, Run};
+use kt_calls::{Answer, Begun, Claim, Lead, Published, Run, Taken};
 use kt_hands::{Hand, Home};
 use kt_law::Op;
 use kt_prog::{Call, PATH};
 use kt_ready::Scan;
 use kt_request::Served;
 use kt_tasks::Offer;
-use kt_words::StateWord;
+use kt_words::{Pair, StateWord};
 
 /// How many events are kept.
 pub const KEPT: usize = 24;
@@ -47,6 +47,14 @@ pub enum Event {
     Looked(Answer),
     /// A claim for a thief, outside of a serve.
     Offered(u32, Offer),
+    Began(Begun),
+    /// The piece that became the own interval, of the loop in this record.
+    Held(u32, Pair),
+    Took(Taken),
+    /// Indexes were retired, and so many of the loop were left.
+    Retired(u32),
+    /// So many indexes of the own loop were left.
+    Left(u32),
 }
 
 impl Default for Event {
@@ -161,6 +169,39 @@ impl<'t, H: Home> Run for Recorder<'t, H> {
     fn finish(&mut self, at: u32) {
         self.hand.finish(at);
         keep(&mut self.log, Event::Finished(at));
+    }
+
+    fn begin_loop(&mut self, at: u32) -> Begun {
+        let begun = self.hand.begin_loop(at);
+        keep(&mut self.log, Event::Began(begun));
+        begun
+    }
+
+    fn take_piece(&mut self, at: u32, piece: Pair) {
+        self.hand.take_piece(at, piece);
+        keep(&mut self.log, Event::Held(at, piece));
+    }
+
+    fn chunk(&mut self, grain: u32) -> Taken {
+        let taken = self.hand.chunk(grain);
+        keep(&mut self.log, Event::Took(taken));
+        taken
+    }
+
+    fn retire(&mut self, at: u32, count: u32) -> u32 {
+        let left = self.hand.retire(at, count);
+        keep(&mut self.log, Event::Retired(left));
+        left
+    }
+
+    fn left(&mut self, at: u32) -> u32 {
+        let left = self.hand.left(at);
+        keep(&mut self.log, Event::Left(left));
+        left
+    }
+
+    fn first_of(&mut self, at: u32) -> u32 {
+        self.hand.first_of(at)
     }
 
     fn stand(&mut self, at: u32) -> StateWord {

@@ -11,7 +11,7 @@ use kt_law::Stand;
 use kt_pool::Pool;
 use kt_prog::{inputs, laws};
 use kt_tasks::Offer;
-use kt_worker::{Scratch, has_loops};
+use kt_worker::Scratch;
 use std::test::Fail;
 
 const PUTS: &str =
@@ -23,9 +23,6 @@ const FREE: &str = "task rest() {}\nmain { fork rest(); fork rest(); fork rest()
 fn a_task_is_given_to_one_of_three(rt: HostRuntime) -> Result<(), Fail> {
     let alloc = rt.alloc();
     let (program, numbers) = opened(alloc, PUTS)?;
-    if has_loops(&program) {
-        return Err("no loop".into());
-    }
     laws::few_objects();
     let wanted = inputs(&program);
     assert!(rt; wanted as usize == numbers.len());
@@ -39,7 +36,7 @@ fn a_task_is_given_to_one_of_three(rt: HostRuntime) -> Result<(), Fail> {
         firsts: firsts.as_slice(),
         pause: &pause,
     };
-    let logs = play_one(common, seats, room);
+    let logs = play_one(&rt, common, seats, room);
     let zero = [
         Event::Claimed(0, Claim::Won),
         Event::Forked(Published::Published(1)),
@@ -84,9 +81,6 @@ fn a_task_is_given_to_one_of_three(rt: HostRuntime) -> Result<(), Fail> {
 fn one_serve_answers_two(rt: HostRuntime) -> Result<(), Fail> {
     let alloc = rt.alloc();
     let (program, numbers) = opened(alloc, FREE)?;
-    if has_loops(&program) {
-        return Err("no loop".into());
-    }
     laws::few_objects();
     let wanted = inputs(&program);
     assert!(rt; wanted as usize == numbers.len());
@@ -100,7 +94,7 @@ fn one_serve_answers_two(rt: HostRuntime) -> Result<(), Fail> {
         firsts: firsts.as_slice(),
         pause: &pause,
     };
-    let logs = play_two(common, seats, room);
+    let logs = play_two(&rt, common, seats, room);
     let zero = [
         Event::Claimed(0, Claim::Won),
         Event::Forked(Published::Published(1)),
@@ -131,9 +125,6 @@ fn one_serve_answers_two(rt: HostRuntime) -> Result<(), Fail> {
 fn one_serve_answers_seven(rt: HostRuntime) -> Result<(), Fail> {
     let alloc = rt.alloc();
     let (program, numbers) = opened(alloc, FREE)?;
-    if has_loops(&program) {
-        return Err("no loop".into());
-    }
     laws::few_objects();
     let wanted = inputs(&program);
     assert!(rt; wanted as usize == numbers.len());
@@ -147,7 +138,7 @@ fn one_serve_answers_seven(rt: HostRuntime) -> Result<(), Fail> {
         firsts: firsts.as_slice(),
         pause: &pause,
     };
-    let crowd = play_eight(common, seats, room);
+    let crowd = play_eight(&rt, common, seats, room);
     let served = [
         Event::Posted(0),
         Event::Led(Lead::Won),

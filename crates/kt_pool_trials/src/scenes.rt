@@ -4,7 +4,7 @@ ghost use Rattle.kt_prog.specs.Accepted.{IsAccepted};
 ghost use Rattle.kt_law.specs.declared.limits.TheConstants.{WORKERS};
 ghost use Rattle.kt_rule.specs.declared.views.Setup.{Setup};
 ghost use Rattle.kt_pool.specs.Seats.{AreSeatsOf, HaveNotStepped};
-ghost use Rattle.kt_worker.specs.Programs.{HasFirsts, IsRunnable};
+ghost use Rattle.kt_intervals.specs.Programs.{HasFirsts};
 ghost use Rattle.kt_pool_trials.specs.Driven.{IsDriven, IsRoomy, IsUnmoved};
 
 use crate::driven::{
@@ -20,6 +20,7 @@ use kt_rule::Seat;
 use kt_worker::{Scratch, Tools};
 use std::alloc::Global;
 use std::marker::Brand;
+use std::sync::Wait;
 
 /// Room for so many workers.
 pub fn room_for(alloc: Global, program: &Program, workers: u32) -> Result<Vec<Tools>, NoMemory>
@@ -42,7 +43,7 @@ pub fn hires<'a, 't, H: Home>(
     room: &mut Vec<Tools>,
 ) -> Driven<'a, 't, H>
     requires home { H.table ≡ Some common.table.now.table.shared.table_id }
-    requires runnable { IsRunnable common.program.now }
+    requires accepted { IsAccepted common.program.now }
     requires firsts { HasFirsts common.program.now.families common.firsts.now }
     requires seats { All (IsUnmoved common.table.now common.program.now) seats.old.items × (0 < length seats.old.items) }
     requires room { All (IsRoomy common.program.now) room.old.items × (0 < length room.old.items) }
@@ -64,7 +65,8 @@ pub struct Logs {
 }
 
 // A task is given to worker 1, with worker 0 and 2 trying for it, and then the run goes on to its end.
-fn one_of_three<'a, 't, H: Home>(
+fn one_of_three<'a, 't, H: Home, W: Wait>(
+    rt: &W,
     zero: Driven<'a, 't, H>,
     one: Driven<'a, 't, H>,
     two: Driven<'a, 't, H>,
@@ -73,7 +75,7 @@ fn one_of_three<'a, 't, H: Home>(
     requires one { IsDriven one.worker.run.hand.seat.token.me.0 one.worker.program.now one.worker.firsts.now one.worker.tally one.tools one.stage }
     requires two { IsDriven two.worker.run.hand.seat.token.me.0 two.worker.program.now two.worker.firsts.now two.worker.tally two.tools two.stage }
 {
-    let zero = begins(zero);
+    let zero = begins(rt, zero);
     let one = watches(one, 1);
     let two = notes(two, 1);
     let one = serves(leads(asks(one)));
@@ -81,9 +83,9 @@ fn one_of_three<'a, 't, H: Home>(
     let two = offers(two);
     let one = starts(looks(one));
     let zero = claims(zero);
-    let one = finishes(runs(one));
-    let zero = finishes(runs(claims(passes(zero))));
-    let zero = finishes(runs(claims(zero)));
+    let one = finishes(runs(rt, one));
+    let zero = finishes(runs(rt, claims(passes(zero))));
+    let zero = finishes(runs(rt, claims(zero)));
     let zero = finishes(zero);
     let two = watches(two, 0);
     Logs {
@@ -94,7 +96,8 @@ fn one_of_three<'a, 't, H: Home>(
 }
 
 // Workers 1 and 2 ask, worker 1 serves both.
-fn two_of_three<'a, 't, H: Home>(
+fn two_of_three<'a, 't, H: Home, W: Wait>(
+    rt: &W,
     zero: Driven<'a, 't, H>,
     one: Driven<'a, 't, H>,
     two: Driven<'a, 't, H>,
@@ -103,7 +106,7 @@ fn two_of_three<'a, 't, H: Home>(
     requires one { IsDriven one.worker.run.hand.seat.token.me.0 one.worker.program.now one.worker.firsts.now one.worker.tally one.tools one.stage }
     requires two { IsDriven two.worker.run.hand.seat.token.me.0 two.worker.program.now two.worker.firsts.now two.worker.tally two.tools two.stage }
 {
-    let zero = begins(zero);
+    let zero = begins(rt, zero);
     let one = asks(one);
     let two = asks(two);
     let one = leads(one);
@@ -118,7 +121,8 @@ fn two_of_three<'a, 't, H: Home>(
     }
 }
 
-fn hired_one<'a, 't, H: Home>(
+fn hired_one<'a, 't, H: Home, W: Wait>(
+    rt: &W,
     common: Common<'a, 't>,
     mut seats: Vec<Seat>,
     mut room: Vec<Tools>,
@@ -126,26 +130,27 @@ fn hired_one<'a, 't, H: Home>(
     requires home { H.table ≡ Some common.table.now.table.shared.table_id }
     requires seats { All (IsUnmoved common.table.now common.program.now) seats.items × (length seats.items ≡ 3) }
     requires room { All (IsRoomy common.program.now) room.items × (length room.items ≡ 3) }
-    requires runnable { IsRunnable common.program.now }
+    requires accepted { IsAccepted common.program.now }
     requires firsts { HasFirsts common.program.now.families common.firsts.now }
 {
     let zero = hires::<H>(common, &mut seats, &mut room);
     let one = hires::<H>(common, &mut seats, &mut room);
     let two = hires::<H>(common, &mut seats, &mut room);
-    one_of_three(zero, one, two)
+    one_of_three(rt, zero, one, two)
 }
 
 /// `one_of_three` at a table whose seats have made no step.
-pub fn play_one(common: Common, seats: Vec<Seat>, room: Vec<Tools>) -> Logs
+pub fn play_one<W: Wait>(rt: &W, common: Common, seats: Vec<Seat>, room: Vec<Tools>) -> Logs
     requires seats { (j : Setup) × AreSeatsOf j common.table.now seats.items × HaveNotStepped j seats.items × (j.workers ≡ 3) × (j.program ≡ common.program.now) }
     requires room { All (IsRoomy common.program.now) room.items × (length room.items ≡ 3) }
-    requires runnable { IsRunnable common.program.now }
+    requires accepted { IsAccepted common.program.now }
     requires firsts { HasFirsts common.program.now.families common.firsts.now }
 {
-    hired_one::<Brand>(common, seats, room)
+    hired_one::<Brand, W>(rt, common, seats, room)
 }
 
-fn hired_two<'a, 't, H: Home>(
+fn hired_two<'a, 't, H: Home, W: Wait>(
+    rt: &W,
     common: Common<'a, 't>,
     mut seats: Vec<Seat>,
     mut room: Vec<Tools>,
@@ -153,21 +158,21 @@ fn hired_two<'a, 't, H: Home>(
     requires home { H.table ≡ Some common.table.now.table.shared.table_id }
     requires seats { All (IsUnmoved common.table.now common.program.now) seats.items × (length seats.items ≡ 3) }
     requires room { All (IsRoomy common.program.now) room.items × (length room.items ≡ 3) }
-    requires runnable { IsRunnable common.program.now }
+    requires accepted { IsAccepted common.program.now }
     requires firsts { HasFirsts common.program.now.families common.firsts.now }
 {
     let zero = hires::<H>(common, &mut seats, &mut room);
     let one = hires::<H>(common, &mut seats, &mut room);
     let two = hires::<H>(common, &mut seats, &mut room);
-    two_of_three(zero, one, two)
+    two_of_three(rt, zero, one, two)
 }
 
 /// `two_of_three` at a table whose seats have made no step.
-pub fn play_two(common: Common, seats: Vec<Seat>, room: Vec<Tools>) -> Logs
+pub fn play_two<W: Wait>(rt: &W, common: Common, seats: Vec<Seat>, room: Vec<Tools>) -> Logs
     requires seats { (j : Setup) × AreSeatsOf j common.table.now seats.items × HaveNotStepped j seats.items × (j.workers ≡ 3) × (j.program ≡ common.program.now) }
     requires room { All (IsRoomy common.program.now) room.items × (length room.items ≡ 3) }
-    requires runnable { IsRunnable common.program.now }
+    requires accepted { IsAccepted common.program.now }
     requires firsts { HasFirsts common.program.now.families common.firsts.now }
 {
-    hired_two::<Brand>(common, seats, room)
+    hired_two::<Brand, W>(rt, common, seats, room)
 }

@@ -1,6 +1,6 @@
 // Where a worker stands that is driven step by step.
 
-use kt_words::StateWord;
+use kt_words::{Pair, StateWord};
 
 /// Where a worker stands. All that it asks is asked at worker 0.
 #[derive(Clone, Copy, Debug, PartialEq, Eq)]
@@ -15,6 +15,8 @@ pub enum Stage {
     Leading,
     /// It was given the task of this record.
     Given(u32),
+    /// It was given this piece of the loop of this record.
+    Piece(u32, Pair),
     /// It has begun the task of this record, which is or is not the next entry of its topmost frame.
     Begun(u32, bool),
     /// It has noted the entry of this record, and by its notes the entry is ready.

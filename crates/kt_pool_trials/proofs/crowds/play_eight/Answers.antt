@@ -3,7 +3,7 @@ use Rattle.kt_pool_trials.proofs.Driving.{all_unmoved}
 use Rattle.kt_pool_trials.proofs.crowds.play_eight.Goals as goal
 
 pub hired_eight-requires-clause-seats : goal.hired_eight-requires-clause-seats
-hired_eight-requires-clause-seats c =
+hired_eight-requires-clause-seats g c =
     let q = c.requires.seats in
     let few = q.3 in (
       all_unmoved q.0 c.args.common.table.now c.args.common.program.now c.args.seats.items q.1 q.2 (omega (arith, few)) q.4,

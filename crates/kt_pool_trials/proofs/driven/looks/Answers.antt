@@ -14,7 +14,7 @@ returns-in-Asking g c =
     at_stage v d.worker.program.now d.worker.tally d.tools.stack.levels d.stage S.Asking c.in-Asking.is c.requires.stands in
     let looked = c.look-answer.ensures.looked in
     let tried = tried_both _ _ _ c.look-answer.result h.asks
-    (settled _ _ looked.0 c.look-answer.result (asked_given _ _ _ _ h) h.asks.free h.asks.leads c.look-answer.ensures.inside looked.2) in
+    (settled _ _ looked.0 c.look-answer.result (asked_given _ _ _ _ h) h.asks.free h.asks.leads c.look-answer.ensures.inside c.look-answer.ensures.piece_inside looked.2) in
     record {
       equipped = c.requires.equipped;
       stands = subst (λ (s : Stage). Stands c.look-answer.new.self.hand.seat.token.me.0 d.worker.program.now d.worker.tally d.tools.stack.levels s) (sym c.stage_of-stage.ensures)

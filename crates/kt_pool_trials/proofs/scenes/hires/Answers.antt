@@ -11,7 +11,7 @@ pub hired-requires-clause-equipped : goal.hired-requires-clause-equipped
 hired-requires-clause-equipped g c =
     let roomy = first_of (IsRoomy c.args.common.program.now) c.args.room.now.items c.remove-tools.result c.requires.room.1
     c.remove-tools.ensures.value c.requires.room.0 in
-    record { runnable = c.requires.runnable; firsts = c.requires.firsts; room = roomy.room }
+    record { accepted = c.requires.accepted; firsts = c.requires.firsts; room = roomy.room }
 
 pub hired-requires-clause-empty : goal.hired-requires-clause-empty
 hired-requires-clause-empty g c =

@@ -3,7 +3,7 @@ use Rattle.kt_pool_trials.proofs.Driving.{all_unmoved}
 use Rattle.kt_pool_trials.proofs.scenes.play_two.Goals as goal
 
 pub hired_two-requires-clause-seats : goal.hired_two-requires-clause-seats
-hired_two-requires-clause-seats c =
+hired_two-requires-clause-seats g c =
     let q = c.requires.seats in
     let few = q.3 in (
       all_unmoved q.0 c.args.common.table.now c.args.common.program.now c.args.seats.items q.1 q.2 (omega (arith, few)) q.4,
