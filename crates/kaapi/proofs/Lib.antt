@@ -4,6 +4,5 @@ pub mod OneAnswer
 pub mod FewWorkers
 pub mod FitSizes
 pub mod Records
-pub mod WithoutLoops
 pub mod Counts
 pub mod Completed

@@ -24,9 +24,8 @@ use Rattle.kt_open.specs.Answers.{IsAnswer as I, Unopens as U}
 use Rattle.kt_open.specs.Answers.IsRefused.{unread, broken}
 use Rattle.kt_read.specs.Jobs.{IsJob}
 use Rattle.kt_read.specs.Laws.{OneJob, OneRefusal, JobIsRead}
-use Rattle.kt_worker.specs.Programs.{has_loop}
-use Rattle.kaapi.specs.Answers.{AnswersCheck, AnswersRun, AnswersJob, AnswersCommand, AnswersDemo, AnswersThreads, answered_by, told}
-use Rattle.kaapi.specs.Answers.{AnswersCheck as K, AnswersDemo as M, AnswersThreads as T}
+use Rattle.kaapi.specs.Answers.{AnswersCheck, AnswersRun, AnswersJob, AnswersCommand, AnswersDemo, answered_by, told}
+use Rattle.kaapi.specs.Answers.{AnswersCheck as K, AnswersDemo as M}
 use Rattle.kaapi.specs.Answers.AnswersJob.{too_long, within}
 use Rattle.kaapi.specs.Exits.{number_of}
 use Rattle.kaapi.specs.Laws.{OneAnswer}
@@ -37,9 +36,6 @@ use Rattle.kaapi.proofs.JobReplies.{never_accepted, not_accepted}
 
 same_some : {A : Type 0} {o : Option A} {a b : A} → o ≡ Some a → o ≡ Some b → a ≡ b
 same_some h k = cc
-
-no_two : (p q : Program) → p ≡ q → has_loop p.tasks ≡ false → has_loop q.tasks ≡ true → ⊥
-no_two p q same none loop = let both : has_loop p.tasks ≡ has_loop q.tasks = ap (λ (p : Program). has_loop p.tasks) same in cc
 
 -- what is told of two answers to the data that begin at one place, of which so many are wanted
 one_error : {r : Result (List ℕ) DataError} {d e : DataError} → r ≡ Err d → r ≡ Err e → d ≡ e
@@ -52,13 +48,10 @@ no_input : {r : Result (List ℕ) DataError} {a : List ℕ} {e : DataError} → 
 no_input h k = cc
 
 one_demo : (kind : JobKind) (size number : ℕ) (a b : Said Exit) → AnswersDemo kind size number a → AnswersDemo kind size number b → a ≡ b
-one_demo kind size number a b (M.totals {p} {input} g none) (M.totals {p = q} {input = numbers} k also) =
+one_demo kind size number a b (M.totals {p} {input} g) (M.totals {p = q} {input = numbers} k) =
     let programs : p ≡ q = g.tree ∙ sym k.tree in
     let inputs : input ≡ numbers = g.numbers ∙ sym k.numbers in
     ap (λ (p : Program). told E.Done (totals_of p input)) programs ∙ ap (λ (input : List ℕ). told E.Done (totals_of q input)) inputs
-one_demo kind size number a b (M.totals {p} {input} g none) (M.loops {p = q} {input = numbers} k loop) = absurd (no_two p q (g.tree ∙ sym k.tree) none loop)
-one_demo kind size number a b (M.loops {p} {input} g loop) (M.totals {p = q} {input = numbers} k none) = absurd (no_two q p (k.tree ∙ sym g.tree) none loop)
-one_demo kind size number a b (M.loops g loop) (M.loops k also) = refl
 
 module _ (one_job : OneJob) (one_refusal : OneRefusal) (is_read : JobIsRead) where
   one_refused : (bytes : List ℕ) (r s : Refusal) → IsRefused bytes r → IsRefused bytes s → r ≡ s
@@ -138,7 +131,7 @@ module _ (one_job : OneJob) (one_refusal : OneRefusal) (is_read : JobIsRead) whe
   abbrev exit_of : ℕ → Exit
   exit_of n =
       get_or
-      (E.Done ∷ E.Done ∷ E.Usage ∷ E.ReadFault ∷ E.WriteFault ∷ E.Refused ∷ E.BadData ∷ E.Fault ∷ E.Limit ∷ E.TooLong ∷ E.NoMemory ∷ E.NotBuilt ∷ []) n
+      (E.Done ∷ E.Done ∷ E.Usage ∷ E.ReadFault ∷ E.WriteFault ∷ E.Refused ∷ E.BadData ∷ E.Fault ∷ E.Limit ∷ E.TooLong ∷ E.NoMemory ∷ []) n
       E.Done
 
   its_exit : (a : Exit) → exit_of (number_of a) ≡ a
@@ -152,7 +145,6 @@ module _ (one_job : OneJob) (one_refusal : OneRefusal) (is_read : JobIsRead) whe
   its_exit E.Limit = refl
   its_exit E.TooLong = refl
   its_exit E.NoMemory = refl
-  its_exit E.NotBuilt = refl
 
   same_reply : (a b : Said Exit) → answered_by a ≡ answered_by b → a ≡ b
   same_reply a b h =
@@ -162,12 +154,6 @@ module _ (one_job : OneJob) (one_refusal : OneRefusal) (is_read : JobIsRead) whe
 
   one_run_answer : (job : List ℕ) (a b : Said Exit) → AnswersRun job a → AnswersRun job b → a ≡ b
   one_run_answer job a b h k = same_reply a b (one_run job (answered_by a) (answered_by b) h k)
-
-  one_by_threads : (job : List ℕ) (a b : Said Exit) → AnswersThreads job a → AnswersThreads job b → a ≡ b
-  one_by_threads job a b (T.as_run none h) (T.as_run also k) = one_run_answer job a b h k
-  one_by_threads job a b (T.as_run none h) (T.loops declares) = absurd (none declares)
-  one_by_threads job a b (T.loops declares) (T.as_run none k) = absurd (none declares)
-  one_by_threads job a b (T.loops declares) (T.loops also) = refl
 
   one_job_answer : (Given : List ℕ → Said Exit → Type 0) (job : List ℕ) → ((a b : Said Exit) → Given job a → Given job b → a ≡ b)
       → (a b : Said Exit) → AnswersJob Given job a → AnswersJob Given job b → a ≡ b
@@ -181,7 +167,7 @@ module _ (one_job : OneJob) (one_refusal : OneRefusal) (is_read : JobIsRead) whe
   one_command (Some C.Seq) job a b h k = one_job_answer AnswersRun job (one_run_answer job) a b h k
   one_command (Some (C.Sim workers number)) job a b h k = one_job_answer AnswersRun job (one_run_answer job) a b h k
   one_command (Some (C.Gen kind size number)) job a b h k = h ∙ sym k
-  one_command (Some (C.Run workers)) job a b h k = one_job_answer AnswersThreads job (one_by_threads job) a b h k
+  one_command (Some (C.Run workers)) job a b h k = one_job_answer AnswersRun job (one_run_answer job) a b h k
   one_command (Some (C.Demo kind size number workers)) job a b h k = one_demo kind size number a b h k
   one_command None job a b h k = h ∙ sym k
 

@@ -1,5 +1,5 @@
 -- What the words and a job are answered: an exit and a text.
-use Rattle.std.specs.Prelude.{◌≡◌, ◌≤◌, ◌<◌, ℕ, List, length, Bool, true, false, Option, Some, None, codes}
+use Rattle.std.specs.Prelude.{◌≡◌, ◌≤◌, ◌<◌, ℕ, List, length, Bool, true, false, Option, Some, None}
 use Rattle.kt_io.specs.Ending.{Said, Faults}
 use Rattle.kt_law.specs.declared.limits.TheConstants.{JOB}
 use Rattle.kt_law.specs.declared.places.Refusal.{Refusal}
@@ -16,7 +16,6 @@ use Rattle.kt_print.specs.declared.lines.Line.{Line}
 use Rattle.kt_print.specs.declared.lines.Line.TheVariants as L
 use Rattle.kt_open.specs.Answers.{Answered, IsAnswer, IsRefused}
 use Rattle.kt_read.specs.Jobs.{IsJob}
-use Rattle.kt_worker.specs.Programs.{has_loop}
 use Rattle.kaapi.specs.Exits.{number_of}
 use Rattle.kaapi.specs.Totals.{IsGenerated, totals_of}
 use Rattle.kaapi.specs.declared.exits.Exit.{Exit}
@@ -44,7 +43,7 @@ pub data AnswersCheck (job : List ℕ) : Said Exit → Type 0 where
 abbrev pub answered_by : Said Exit → Answered
 answered_by reply = record { status = number_of reply.exit; text = reply.text }
 
--- to `seq` and to `sim`: what the job is answered that is run
+-- to `seq`, to `sim` and to `run`: what the job is answered that is run
 abbrev pub AnswersRun : List ℕ → Said Exit → Type 0
 AnswersRun job reply = IsAnswer job (answered_by reply)
 
@@ -52,28 +51,9 @@ abbrev pub AnswersAsked : Asked → List ℕ → Said Exit → Type 0
 AnswersAsked A.Check job reply = AnswersCheck job reply
 AnswersAsked (A.Run way) job reply = AnswersRun job reply
 
--- the program of the job is accepted, and declares a loop
-pub record DeclaresLoop (job : List ℕ) : Type 0 where
-  pub program : Program
-  pub from : ℕ
-  pub reads : IsJob job program from
-  pub accepted : IsAccepted program
-  pub loop : has_loop program.tasks ≡ true
-
--- where workers do not run what is asked for
-abbrev pub not_built : Said Exit
-not_built = record { exit = E.NotBuilt; text = codes "not built\n" }
-
--- to `run W`: what the job is answered that is run on one thread, unless its program declares a loop
-pub data AnswersThreads (job : List ℕ) : Said Exit → Type 0 where
-  as_run : {reply : Said Exit} → (DeclaresLoop job → ⊥) → AnswersRun job reply → AnswersThreads job reply
-  loops : DeclaresLoop job → AnswersThreads job not_built
-
--- to `demo`: the totals of the reference run of the generated job, unless its program declares a loop
+-- to `demo`: the totals of the reference run of the generated job
 pub data AnswersDemo (kind : Kind) (size number : ℕ) : Said Exit → Type 0 where
-  totals : {p : Program} {input : List ℕ} → IsGenerated kind size number p input → has_loop p.tasks ≡ false →
-      AnswersDemo kind size number (told E.Done (totals_of p input))
-  loops : {p : Program} {input : List ℕ} → IsGenerated kind size number p input → has_loop p.tasks ≡ true → AnswersDemo kind size number not_built
+  totals : {p : Program} {input : List ℕ} → IsGenerated kind size number p input → AnswersDemo kind size number (told E.Done (totals_of p input))
 
 -- to words that ask for an answer to a job, of which there may be so many bytes; `Given` says what a job of so few is answered
 pub data AnswersJob (Given : List ℕ → Said Exit → Type 0) (job : List ℕ) : Said Exit → Type 0 where
@@ -90,7 +70,7 @@ AnswersCommand (Some C.Check) job reply = AnswersJob AnswersCheck job reply
 AnswersCommand (Some C.Seq) job reply = AnswersJob AnswersRun job reply
 AnswersCommand (Some (C.Sim workers number)) job reply = AnswersJob AnswersRun job reply
 AnswersCommand (Some (C.Gen kind size number)) job reply = reply ≡ generated kind size number
-AnswersCommand (Some (C.Run workers)) job reply = AnswersJob AnswersThreads job reply
+AnswersCommand (Some (C.Run workers)) job reply = AnswersJob AnswersRun job reply
 AnswersCommand (Some (C.Demo kind size number workers)) job reply = AnswersDemo kind size number reply
 AnswersCommand None job reply = reply ≡ told E.Usage L.Usage
 

@@ -15,7 +15,6 @@ number_of E.Fault = 7
 number_of E.Limit = 8
 number_of E.TooLong = 9
 number_of E.NoMemory = 10
-number_of E.NotBuilt = 11
 
 -- of the exits of words that ask for a run: a run came to its end, and its answer was written
 abbrev pub ends_run : Exit → Bool
@@ -29,4 +28,3 @@ ends_run E.Refused = false
 ends_run E.BadData = false
 ends_run E.TooLong = false
 ends_run E.NoMemory = false
-ends_run E.NotBuilt = false

@@ -4,8 +4,7 @@
 -- of memory, its status and the written bytes are those of the job's reference run; and where that run keeps the limits, each of its tasks and
 -- loop indexes was executed exactly once, and every read found the last value written before it in reference order, cumulative writes folded in.
 --
--- The job of `run` is the one that the source gives, that of `demo` the generated one. Workers run no program that declares a
--- loop: it is answered `not built`, which is one of the answers.
+-- The job of `run` is the one that the source gives, that of `demo` the generated one.
 --
 -- No sentence below names the order of steps: the call keeps them in whatever order it met.
 use Rattle.std.specs.Prelude.{◌≡◌, ◌≢◌, ◌↔◌, ℕ, List, true, false, Option, Some, None}
@@ -51,8 +50,8 @@ RecordedFor (Some (C.Demo kind size number workers)) job exit handed = Recorded 
 RecordedFor _ job exit handed = handed ≡ None
 
 pub record Headline (words : List (List ℕ)) (job : List ℕ) (source sink : Over) (exit : Exit) (handed : Option Record) : Type 0 where
-  -- the status and the written bytes are the answer to the words and the job: to `run` that of the reference run, a refusal or `not built`,
-  -- to `demo` the totals of the reference run or `not built`; or a stream failed in this call, or memory was wanting
+  -- the status and the written bytes are the answer to the words and the job: to `run` that of the reference run or a refusal, to `demo` the
+  -- totals of the reference run; or a stream failed in this call, or memory was wanting
   pub answered : EndsWith faults (Answers words job) source sink exit
   -- the record of a run by workers says that each task was executed exactly once, with the reads of the reference run
   pub recorded : RecordedFor (command_of words) job exit handed

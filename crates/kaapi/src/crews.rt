@@ -2,21 +2,20 @@
 ghost use Rattle.std.specs.Prelude.{◌≡◌, ◌≤◌, List, ℕ, length, IfOk};
 ghost use Rattle.kt_law.specs.declared.limits.TheConstants.{WORKERS};
 ghost use Rattle.kt_open.specs.Answers.{Opened, answered_run};
+ghost use Rattle.kt_prog.specs.Accepted.{IsAccepted};
 ghost use Rattle.kt_prog.specs.Objects.{inputs_of};
 ghost use Rattle.kt_prog.specs.Outcome.{outcome_of};
-ghost use Rattle.kt_worker.specs.Programs.{IsRunnable};
-ghost use Rattle.kaapi.specs.Answers.{AnswersThreads, answered_by};
+ghost use Rattle.kaapi.specs.Answers.{AnswersRun, answered_by};
 ghost use Rattle.kaapi.specs.Headline.{Recorded};
 
 use crate::jobs::{reply_to_outcome, reply_to_unopened};
 use crate::replies::Reply;
 use kt_crew::run_all;
 use kt_law::{JOB, NoMemory};
-use kt_open::{open_data, open_program};
+use kt_open::open_job;
 use kt_pool::Record;
 use kt_prog::Program;
-use kt_read::laws::{job_is_read, one_job};
-use kt_worker::{Gate, has_loops};
+use kt_worker::Gate;
 use std::alloc::Global;
 use std::sync::Wait;
 use std::thread::Threads;
@@ -32,20 +31,11 @@ pub fn reply_by_workers<R: Threads + Wait + Sync, G: Gate + Sync>(
     requires short { length job.now ≤ JOB }
     requires some { 1 ≤ workers }
     requires few { workers ≤ WORKERS }
-    ensures answers { IfOk result (λ x. AnswersThreads job.now x.0) }
+    ensures answers { IfOk result (λ x. AnswersRun job.now x.0) }
     ensures recorded { IfOk result (λ x. Recorded (Opened job.now) workers x.0.exit x.1) }
 {
-    one_job();
-    job_is_read();
-    let (program, from) = match open_program(alloc, job) {
-        Ok(opened) => opened,
-        Err(unopened) => return Ok((reply_to_unopened(alloc, unopened)?, None)),
-    };
-    if has_loops(&program) {
-        return Ok((Reply::not_built(alloc)?, None));
-    }
-    match open_data(alloc, job, from, &program) {
-        Ok(input) => run(rt, alloc, workers, &program, &input, gate),
+    match open_job(alloc, job) {
+        Ok((program, input)) => run(rt, alloc, workers, &program, &input, gate),
         Err(unopened) => Ok((reply_to_unopened(alloc, unopened)?, None)),
     }
 }
@@ -58,7 +48,7 @@ fn run<R: Threads + Wait + Sync, G: Gate + Sync>(
     input: &[u64],
     gate: &G,
 ) -> Result<(Reply, Option<Record>), NoMemory>
-    requires runnable { IsRunnable program.now }
+    requires accepted { IsAccepted program.now }
     requires whole { length input.now ≡ inputs_of program.now.families }
     requires some { 1 ≤ workers }
     requires few { workers ≤ WORKERS }

@@ -19,7 +19,7 @@ use kt_gen_runs::laws::generated_jobs_complete;
 use kt_io::Sink;
 use kt_law::NoMemory;
 use kt_pool::Record;
-use kt_worker::{Gate, has_loops};
+use kt_worker::Gate;
 use std::alloc::Global;
 use std::sync::Wait;
 use std::thread::Threads;
@@ -60,9 +60,6 @@ fn demo_by_workers<R: Threads + Wait + Sync, G: Gate + Sync>(
 {
     generated_jobs_complete();
     let (program, input) = make(alloc, job.kind, job.size, job.number)?;
-    if has_loops(&program) {
-        return Ok((Reply::not_built(alloc)?, None));
-    }
     let (ran, witness) = run_all(rt, alloc, &program, &input, workers, gate)?;
     let line = totals(&program, ran);
     let reply = reply_with(alloc, Exit::Done, &line)?;

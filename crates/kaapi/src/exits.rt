@@ -25,8 +25,6 @@ pub enum Exit {
     TooLong,
     /// There was no memory, and nothing was written.
     NoMemory,
-    /// Workers do not run what is asked for.
-    NotBuilt,
 }
 
 impl Exit {
@@ -45,7 +43,6 @@ impl Exit {
             Exit::Limit => 8,
             Exit::TooLong => 9,
             Exit::NoMemory => 10,
-            Exit::NotBuilt => 11,
         }
     }
 
@@ -61,8 +58,7 @@ impl Exit {
             | Exit::Refused
             | Exit::BadData
             | Exit::TooLong
-            | Exit::NoMemory
-            | Exit::NotBuilt => false,
+            | Exit::NoMemory => false,
         }
     }
 }

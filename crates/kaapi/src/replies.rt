@@ -1,10 +1,7 @@
 // An answer made whole, before any of it is written.
-ghost use Rattle.std.specs.Prelude.{◌≡◌, IfOk};
-ghost use Rattle.kaapi.specs.Answers.{not_built};
+ghost use Rattle.std.specs.Prelude.{◌≡◌};
 
 use crate::exits::Exit;
-use kt_law::NoMemory;
-use std::alloc::Global;
 use std::marker::Model;
 
 /// An exit and the bytes to be written.
@@ -28,14 +25,6 @@ impl Reply {
         ensures { result ≡ record { exit = exit; text = text.items } }
     {
         Reply { exit, text }
-    }
-
-    /// Tells that workers do not run what is asked for.
-    pub fn not_built(alloc: Global) -> Result<Self, NoMemory>
-        ensures { IfOk result (λ reply. reply ≡ not_built) }
-    {
-        let text = Vec::from_slice(alloc, b"not built\n")?;
-        Ok(Reply::new(Exit::NotBuilt, text))
     }
 
     pub fn exit(&self) -> Exit

@@ -5,7 +5,7 @@ ghost use Rattle.kt_io.specs.Over.{over};
 ghost use Rattle.kt_io.specs.Streams.{Tells};
 ghost use Rattle.kt_law.specs.declared.limits.TheConstants.{WORKERS};
 ghost use Rattle.kt_open.specs.Answers.{Opened};
-ghost use Rattle.kaapi.specs.Answers.{AnswersAsked, AnswersJob, AnswersNone, AnswersThreads, faults};
+ghost use Rattle.kaapi.specs.Answers.{AnswersAsked, AnswersJob, AnswersNone, AnswersRun, faults};
 ghost use Rattle.kaapi.specs.Headline.{Recorded};
 
 use crate::asked::Asked;
@@ -51,7 +51,7 @@ pub fn run_source<R: Threads + Wait + Sync, S: Source, K: Sink, G: Gate + Sync>(
 ) -> (Exit, Option<Record>)
     requires some { 1 ≤ workers }
     requires few { workers ≤ WORKERS }
-    ensures answers { ForJob (S.left source.old) (λ job. EndsWith faults (AnswersJob AnswersThreads job)
+    ensures answers { ForJob (S.left source.old) (λ job. EndsWith faults (AnswersJob AnswersRun job)
         (over S.left S.faults source.old source.new) (over K.written K.faults sink.old sink.new) result.0 × Recorded (Opened job) workers result.0 result.1) }
     ensures source_later { S.faults source.old ≤ S.faults source.new }
     ensures sink_later { K.faults sink.old ≤ K.faults sink.new }
@@ -106,7 +106,7 @@ fn run_job<R: Threads + Wait + Sync, K: Sink, G: Gate + Sync>(
     requires short { length job.now ≤ JOB }
     requires some { 1 ≤ workers }
     requires few { workers ≤ WORKERS }
-    ensures sent { SendsOrLacks faults (AnswersThreads job.now) (over K.written K.faults sink.old sink.new) result.0 }
+    ensures sent { SendsOrLacks faults (AnswersRun job.now) (over K.written K.faults sink.old sink.new) result.0 }
     ensures recorded { Recorded (Opened job.now) workers result.0 result.1 }
     ensures later { K.faults sink.old ≤ K.faults sink.new }
 {

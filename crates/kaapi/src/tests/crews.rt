@@ -1,8 +1,8 @@
 // Runs by workers.
 use super::{
     A_KERNEL, A_LOOP, Case, INDEX_FAULT, KERNEL_PRODUCT, KERNEL_ROWS, KERNELS, NEVER_RUN,
-    PRODUCT_ROWS, SHORT_TILE, SHORT_TILES, SUMS, TOO_MANY, WALK_ROWS, WALKS, answers, at_the_limit,
-    in_faults, in_rows, words_of,
+    PRODUCT_ROWS, SHORT_TILE, SHORT_TILES, SUM_ROW, SUMS, TOO_LONG_A_LOOP, TOO_MANY, WALK_ROWS,
+    WALKS, answers, at_the_limit, in_faults, in_rows, words_of,
 };
 use crate::exits::Exit;
 use crate::top::top;
@@ -86,6 +86,27 @@ fn workers_end_at_the_limit(rt: HostRuntime) -> Result<(), Fail> {
 }
 
 #[test]
+fn workers_run_loops(rt: HostRuntime) -> Result<(), Fail> {
+    let cases = [
+        answers("run 2", A_LOOP, Exit::Done, "A[0] 8386563\n"),
+        answers(
+            "run 2",
+            INDEX_FAULT,
+            Exit::Fault,
+            "fault F1 2 index 3 line 2\n",
+        ),
+        answers(
+            "run 2",
+            TOO_LONG_A_LOOP,
+            Exit::Fault,
+            "fault F7 main line 3\n",
+        ),
+        answers("run 2", SUMS, Exit::Done, SUM_ROW),
+    ];
+    end_by_workers(&rt, rt.alloc(), &cases)
+}
+
+#[test]
 fn workers_run_kernels(rt: HostRuntime) -> Result<(), Fail> {
     let cases = [
         answers("run 2", A_KERNEL, Exit::Done, ""),
@@ -98,7 +119,7 @@ fn workers_run_kernels(rt: HostRuntime) -> Result<(), Fail> {
     end_by_workers(&rt, rt.alloc(), &cases)
 }
 
-// What is refused comes before what is not built, and that before what is wrong with the data.
+// What is refused comes before what is wrong with the data.
 #[test]
 fn jobs_without_a_run(rt: HostRuntime) -> Result<(), Fail> {
     let cases = [
@@ -110,14 +131,11 @@ fn jobs_without_a_run(rt: HostRuntime) -> Result<(), Fail> {
             Exit::Refused,
             "refused P11 1:18\n",
         ),
-        answers("run 2", A_LOOP, Exit::NotBuilt, "not built\n"),
-        answers("run 2", INDEX_FAULT, Exit::NotBuilt, "not built\n"),
-        answers("run 2", SUMS, Exit::NotBuilt, "not built\n"),
         answers(
             "run 2",
             "loop l(i;) {} main {} data 5",
-            Exit::NotBuilt,
-            "not built\n",
+            Exit::BadData,
+            "data B3 1:28\n",
         ),
         answers("run 2", "main {} data 5", Exit::BadData, "data B3 1:14\n"),
     ];

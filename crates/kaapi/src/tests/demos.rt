@@ -13,6 +13,8 @@ const WALKS: &str = "tasks 9 indexes 0 sum 61040\n";
 
 const STENCIL: &str = "tasks 13 indexes 0 sum 4633372\n";
 
+const SCAN: &str = "tasks 7 indexes 48 sum 366477\n";
+
 #[test]
 fn small_jobs(rt: HostRuntime) -> Result<(), Fail> {
     let cases = [
@@ -25,7 +27,9 @@ fn small_jobs(rt: HostRuntime) -> Result<(), Fail> {
         answers("demo stencil 3 5 1", "", Exit::Done, STENCIL),
         answers("demo stencil 3 5 2", "", Exit::Done, STENCIL),
         answers("demo stencil 3 5 8", "", Exit::Done, STENCIL),
-        answers("demo scan 1 0 2", "", Exit::NotBuilt, "not built\n"),
+        answers("demo scan 3 7 1", "", Exit::Done, SCAN),
+        answers("demo scan 3 7 2", "", Exit::Done, SCAN),
+        answers("demo scan 3 7 8", "", Exit::Done, SCAN),
     ];
     for case in &cases {
         ends(&rt, rt.alloc(), case, &NoGate)?;
@@ -38,6 +42,8 @@ const LARGEST_MUL: &str = "tasks 15626 indexes 0 sum 15680801005915\n";
 const LARGEST_WALKS: &str = "tasks 14977 indexes 0 sum 1268962\n";
 
 const LARGEST_STENCIL: &str = "tasks 4097 indexes 0 sum 2075142548\n";
+
+const LARGEST_SCAN: &str = "tasks 2049 indexes 16384 sum 66432348733\n";
 
 // The totals are the same with any number of workers, and each time.
 #[test]
@@ -53,6 +59,8 @@ fn largest_jobs(rt: HostRuntime) -> Result<(), Fail> {
         answers("demo walks 12 7 8", "", Exit::Done, LARGEST_WALKS),
         answers("demo stencil 1024 7 1", "", Exit::Done, LARGEST_STENCIL),
         answers("demo stencil 1024 7 8", "", Exit::Done, LARGEST_STENCIL),
+        answers("demo scan 1024 7 1", "", Exit::Done, LARGEST_SCAN),
+        answers("demo scan 1024 7 8", "", Exit::Done, LARGEST_SCAN),
     ];
     for case in &cases {
         ends(&rt, rt.alloc(), case, &NoGate)?;

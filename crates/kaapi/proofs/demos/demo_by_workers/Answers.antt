@@ -9,12 +9,6 @@ use Rattle.kaapi.proofs.Completed.{comes_to_rows, never_stopped, rows_are_no_lim
 use Rattle.kaapi.proofs.Counts.{as_many}
 use Rattle.kaapi.proofs.demos.demo_by_workers.Goals as goal
 
-pub returns-then-has_loops-clause-answers : goal.returns-then-has_loops-clause-answers
-returns-then-has_loops-clause-answers g c =
-    let made = c.in_ok-program.ensures in
-    subst (AnswersDemo c.args.job.kind c.args.job.size c.args.job.number) (sym c.in_ok-not_built.ensures)
-    (D.loops (record { tree = made.program; numbers = made.numbers; read = made.read }) (sym c.has_loops.ensures ∙ c.if-has_loops.true))
-
 pub run_all-requires-clause-whole : goal.run_all-requires-clause-whole
 run_all-requires-clause-whole g c =
     let read = c.in_ok-program.ensures.read in
@@ -33,7 +27,7 @@ returns-clause-answers g c =
     let same = rw c.deref.ensures.value at c.in_ok-ran.ensures.ran in
     let line = c.totals-line.ensures c.in_ok-program.input.items same in
     subst (AnswersDemo c.args.job.kind c.args.job.size c.args.job.number) (sym (c.in_ok-reply.ensures ∙ ap (told E.Done) line))
-    (D.totals (record { tree = made.program; numbers = made.numbers; read = made.read }) (sym c.has_loops.ensures ∙ c.if-has_loops.false))
+    (D.totals (record { tree = made.program; numbers = made.numbers; read = made.read }))
 
 pub returns-clause-recorded : goal.returns-clause-recorded
 returns-clause-recorded g c =
