@@ -1,6 +1,6 @@
-// The generated jobs with OpenMP: the same tiles of the same numbers, a task for each kernel, ordered by `depend`. Prints the seconds from
+// The generated jobs with OpenMP: the same tiles of the same numbers, a task for each kernel and each loop, ordered by `depend`. Prints the seconds from
 // the first task to the end of the last one, and the line of totals.
-//     peers mul | walks | stencil SIZE NUMBER      (threads by OMP_NUM_THREADS)
+//     peers mul | walks | stencil | scan SIZE NUMBER      (threads by OMP_NUM_THREADS)
 #include <inttypes.h>
 #include <stdint.h>
 #include <stdio.h>
@@ -16,7 +16,7 @@ typedef u64 tile[CELLS];
 typedef u64 row[SIDE];
 
 static u64 number;
-static u64 tasks = 1;
+static u64 tasks = 1, indexes = 0;
 
 static double now(void) {
     struct timespec t;
@@ -63,7 +63,18 @@ static void smooth(const u64 *restrict l, const u64 *restrict a, const u64 *rest
     b[SIDE - 1] = a[SIDE - 2] + 2 * a[SIDE - 1] + r[0];
 }
 
+// What one row adds to the sums of those behind it.
+static void add_on(u64 t, u64 size, const u64 *a, u64 *sums) {
+    for (int i = 0; i < SIDE; i++)
+        for (u64 u = t + 1; u < size; u++) __atomic_fetch_add(&sums[u], a[i], __ATOMIC_SEQ_CST);
+}
+
+static void scan(u64 sum, u64 *a) {
+    for (int i = 0; i < SIDE; i++) a[i] = sum += a[i];
+}
+
 static tile *a, *b, *c;
+static u64 *sums;
 static row *from, *to;
 
 static void draw_mul(u64 size) {
@@ -88,6 +99,12 @@ static void draw_stencil(u64 size) {
     from = room(size + 2, sizeof(row)), to = room(size + 2, sizeof(row));
     for (u64 j = 1; j <= size; j++)
         for (u64 e = 0; e < SIDE; e++) from[j][e] = drawn(SIDE * (j - 1) + e);
+}
+
+static void draw_scan(u64 size) {
+    from = room(size, sizeof(row)), sums = room(size, sizeof(u64));
+    for (u64 t = 0; t < size; t++)
+        for (u64 e = 0; e < SIDE; e++) from[t][e] = drawn(SIDE * t + e);
 }
 
 static void run_mul(u64 size) {
@@ -143,19 +160,49 @@ static void run_stencil(u64 size) {
     }
 }
 
+// Those that add to the sums do so side by side, and all others wait for them.
+static void run_scan(u64 size) {
+    for (u64 t = 0; t < size; t++) {
+        u64 *x = from[t];
+        tasks++, indexes += SIDE;
+#pragma omp task
+        add_on(t, size, x, sums);
+    }
+#pragma omp taskwait
+    for (u64 t = 0; t < size; t++) {
+        u64 *x = from[t];
+        tasks++;
+#pragma omp task
+        scan(sums[t], x);
+    }
+}
+
+typedef struct {
+    const char *kind;
+    void (*draw)(u64), (*run)(u64);
+} job;
+
+static const job jobs[] = {{"mul", draw_mul, run_mul}, {"walks", draw_walks, run_walks}, {"stencil", draw_stencil, run_stencil}, {"scan", draw_scan, run_scan}};
+
+static const job *job_of(const char *kind) {
+    for (int i = 0; i < 4; i++)
+        if (!strcmp(jobs[i].kind, kind)) return &jobs[i];
+    exit(2);
+}
+
 int main(int count, char **words) {
     if (count != 4) return 2;
-    int mul = !strcmp(words[1], "mul"), walks = !strcmp(words[1], "walks");
+    const job *job = job_of(words[1]);
     u64 size = strtoull(words[2], NULL, 10);
     number = strtoull(words[3], NULL, 10) % 1009;
-    (mul ? draw_mul : walks ? draw_walks : draw_stencil)(size);
+    job->draw(size);
     double start = now();
 #pragma omp parallel
 #pragma omp single
-    (mul ? run_mul : walks ? run_walks : run_stencil)(size);
+    job->run(size);
     double took = now() - start;
     u64 cells = size * size * CELLS;
-    u64 sum = mul ? sum_of(c[0], cells) : walks ? sum_of(a[0], cells) : sum_of(from[0], (size + 2) * SIDE);
-    printf("%.6f\ntasks %" PRIu64 " indexes 0 sum %" PRIu64 "\n", took, tasks, sum);
+    u64 sum = c ? sum_of(c[0], cells) : a ? sum_of(a[0], cells) : sum_of(from[0], (sums ? size : size + 2) * SIDE);
+    printf("%.6f\ntasks %" PRIu64 " indexes %" PRIu64 " sum %" PRIu64 "\n", took, tasks, indexes, sum);
     return 0;
 }

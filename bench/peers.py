@@ -12,7 +12,7 @@ import os, pathlib, subprocess, sys, tempfile, time
 
 TOP = pathlib.Path(__file__).resolve().parent.parent
 
-JOBS = (("mul", 25), ("mul", 12), ("walks", 12), ("walks", 6), ("stencil", 1024), ("stencil", 512))
+JOBS = (("mul", 25), ("mul", 12), ("walks", 12), ("walks", 6), ("stencil", 1024), ("stencil", 512), ("scan", 1024), ("scan", 512))
 NUMBER = 7
 WORKERS = (1, 2, 4)
 RUNS = 9

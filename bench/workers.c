@@ -1,14 +1,16 @@
 // The tasks of the jobs of workers.py with OpenMP: prints the seconds of the work and the sum of what it computed.
-//     workers flat | tree | product    (threads by OMP_NUM_THREADS)
+//     workers flat | tree | product | indexes | steps    (threads by OMP_NUM_THREADS)
 #include <stdint.h>
 #include <stdio.h>
 #include <stdlib.h>
 #include <string.h>
 #include <time.h>
 
-enum { TASKS = 16382, LEVELS = 13, TILES = 8, SIDE = 24, CELLS = SIDE * SIDE };
+enum { TASKS = 16382, LEVELS = 13, TILES = 8, SIDE = 24, CELLS = SIDE * SIDE, INDEXES = 4096, TURNS = 500 };
 
 static uint64_t a[TILES * TILES][CELLS], b[TILES * TILES][CELLS], c[TILES * TILES][CELLS];
+
+static uint64_t folded;
 
 static double now(void) {
     struct timespec t;
@@ -53,6 +55,20 @@ static void product(void) {
             }
 }
 
+// Each index by itself, in the order in which threads come for them.
+static void indexes(int turns) {
+#pragma omp parallel for schedule(dynamic, 16)
+    for (int i = 0; i < INDEXES; i++) {
+        uint64_t x = i;
+        for (int k = 0; k < turns; k++) {
+            x = x * 3 + k;
+            __asm__ volatile("" : "+r"(x));
+        }
+        if (turns == 0) nothing();
+        if (turns != 0) __atomic_fetch_add(&folded, x, __ATOMIC_SEQ_CST);
+    }
+}
+
 int main(int count, char **words) {
     if (count != 2) return 2;
     for (int tile = 0; tile < TILES * TILES; tile++)
@@ -64,6 +80,8 @@ int main(int count, char **words) {
 #pragma omp parallel
     nothing();
     double start = now();
+    if (!strcmp(words[1], "indexes")) indexes(0);
+    if (!strcmp(words[1], "steps")) indexes(TURNS);
 #pragma omp parallel
 #pragma omp single
     {
@@ -72,7 +90,7 @@ int main(int count, char **words) {
         if (!strcmp(words[1], "product")) product();
     }
     double took = now() - start;
-    uint64_t sum = 0;
+    uint64_t sum = folded;
     for (int tile = 0; tile < TILES * TILES; tile++)
         for (int cell = 0; cell < CELLS; cell++) sum += c[tile][cell];
     printf("%.6f %llu\n", took, (unsigned long long)sum);

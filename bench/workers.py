@@ -3,9 +3,9 @@
 
     bench/workers.py [PROGRAM]        PROGRAM is crates/kaapi/out/kaapi where none is given
 
-Outside the gate. Three jobs by `seq` and by `run` with 1, 2 and 4 workers: empty tasks in one frame, empty tasks in a tree, and a product of tiles
-as nested `for` loops. The time of an empty job by the same words is taken off, so the opening of the table is not counted. The C program
-(`workers.c`, by `gcc -O3 -fopenmp`) does the same tasks with `depend` on the same numbers; its tiles are compiled loops, and those of the jobs are
+Outside the gate. Five jobs by `seq` and by `run` with 1, 2 and 4 workers: empty tasks in one frame, empty tasks in a tree, a product of tiles
+as nested `for` loops, a loop of empty indexes, and a loop of indexes of 1,000 steps, two for each turn. The time of an empty job by the same words is taken off, so the opening of the table is not counted. The C program
+(`workers.c`, by `gcc -O3 -fopenmp`) does the same tasks with `depend` on the same numbers, and the indexes by `schedule(dynamic, 16)`; its tiles are compiled loops, and those of the jobs are
 interpreted. The sums of both are compared. The commands take turns, and of each the fastest of five runs counts."""
 import os, pathlib, subprocess, sys, tempfile, time
 
@@ -17,6 +17,8 @@ TILES = 8
 SIDE = 24
 RUNS = 5
 WORKERS = (1, 2, 4)
+INDEXES = 4_096
+TURNS = 500
 
 
 def product():
@@ -38,6 +40,9 @@ JOBS = {
     "tree": f"task half(int n) {{\n  if n > 0 {{\n    fork half(n - 1);\n    fork half(n - 1);\n  }}\n}}\n"
     f"main {{\n  fork half({LEVELS - 1});\n  fork half({LEVELS - 1});\n}}\ndata\n",
     "product": product(),
+    "indexes": f"loop nothing(i;) {{\n}}\nmain {{\n  fork nothing({INDEXES};);\n}}\ndata\n",
+    "steps": "object S of 1 output;\nloop steps(i; int n, cw(add) T) {\n  let x = i;\n  for k in 0..n {\n    x = x * 3 + k;\n  }\n  T[0] add= x;\n}\n"
+    f"main {{\n  fork steps({INDEXES}; {TURNS}, S);\n}}\ndata\n",
 }
 
 
