@@ -9,6 +9,7 @@ ghost use Rattle.kt_worker.specs.Levels.{HasBegun, Turns};
 ghost use Rattle.kt_worker.specs.Programs.{HasRoom};
 
 use crate::body::{Gone, Start, go};
+use crate::costs::after_task;
 use crate::gates::Gate;
 use crate::looping::run_loop;
 use crate::scratch::Tools;
@@ -95,7 +96,13 @@ fn run_whole<'a, R: Run>(
         first,
         frame: begun,
     };
-    let Gone { run, ended, forks } = go::<R, Brand>(run, start, &mut tools.tiles);
+    let Gone {
+        run,
+        ended,
+        forks,
+        elements,
+    } = go::<R, Brand>(run, start, &mut tools.tiles);
+    tools.owed = after_task(tools.owed, elements);
     if is_halted(ended) {
         let worker = Worker {
             run,

@@ -27,11 +27,12 @@ pub struct Start<'a> {
     pub frame: u64,
 }
 
-/// A seat after a body, how that ended, and how many children it forked.
+/// A seat after a body, how that ended, how many children it forked, and how many operations on elements it did.
 pub struct Gone<R: Run> {
     pub run: R,
     pub ended: Ended,
     pub forks: u32,
+    pub elements: u32,
 }
 
 /// Runs the body of a task or of a kernel.
@@ -62,12 +63,18 @@ pub fn go<R: Run, B: Began>(run: R, start: Start, tiles: &mut Tiles) -> Gone<R>
         first: start.first,
         forks: 0,
         frame: start.frame,
+        elements: 0,
         limit: false,
         of: PhantomData,
     };
     let ended = run_call(start.program, start.call, &mut hands, tiles);
-    let (run, forks) = hands.taken_apart();
-    Gone { run, ended, forks }
+    let (run, forks, elements) = hands.taken_apart();
+    Gone {
+        run,
+        ended,
+        forks,
+        elements,
+    }
 }
 
 /// Zeroes what the indexes of the loop write that the seat has begun last.
@@ -86,10 +93,16 @@ pub fn zero<R: Run, B: Began>(run: R, start: Start) -> Gone<R>
         first: start.first,
         forks: 0,
         frame: start.frame,
+        elements: 0,
         limit: false,
         of: PhantomData,
     };
     let ended = run_zero(start.program, start.call, &mut hands);
-    let (run, forks) = hands.taken_apart();
-    Gone { run, ended, forks }
+    let (run, forks, elements) = hands.taken_apart();
+    Gone {
+        run,
+        ended,
+        forks,
+        elements,
+    }
 }

@@ -33,14 +33,16 @@ pub struct Hands<'a, R: Run, B: Began> {
     pub forks: u32,
     /// The frame of these records.
     pub frame: u64,
+    /// How many operations on elements the body did.
+    pub elements: u32,
     /// A fork was one too many.
     pub limit: bool,
     pub of: PhantomData<B>,
 }
 
 impl<'a, R: Run, B: Began> Hands<'a, R, B> {
-    /// The seat, and how many children it forked.
-    pub fn taken_apart(self) -> (R, u32)
+    /// The seat, how many children it forked, and how many operations on elements it did.
+    pub fn taken_apart(self) -> (R, u32, u32)
         ensures { (result.0 ≡ self.entry.run) × (result.1 ≡ self.entry.forks) }
     {
         let Hands {
@@ -51,10 +53,11 @@ impl<'a, R: Run, B: Began> Hands<'a, R, B> {
             first: _,
             forks,
             frame: _,
+            elements,
             limit: _,
             of: _,
         } = self;
-        (run, forks)
+        (run, forks, elements)
     }
 }
 
@@ -69,17 +72,20 @@ impl<'a, R: Run, B: Began> Ops for Hands<'a, R, B> {
     ghost halted = { λ h. h.limit ≡ true };
 
     fn load(&mut self, object: u32, element: u32) -> Got {
+        self.elements = self.elements.saturating_add(1);
         let number = self.firsts[object as usize] + element;
         Got::Value(self.run.load(number))
     }
 
     fn store(&mut self, object: u32, element: u32, value: u64) -> Went {
+        self.elements = self.elements.saturating_add(1);
         let number = self.firsts[object as usize] + element;
         self.run.store(number, value);
         Went::Went
     }
 
     fn fold(&mut self, object: u32, element: u32, op: Op, value: u64) -> Went {
+        self.elements = self.elements.saturating_add(1);
         let number = self.firsts[object as usize] + element;
         self.run.fold(number, op, value);
         Went::Went

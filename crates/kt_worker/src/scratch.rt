@@ -13,12 +13,14 @@ use kt_tiles::Tiles;
 use kt_words::RECORDS;
 use std::alloc::Global;
 
-/// The stack of frames, the scan for those who ask, and the tiles of kernels.
+/// The stack of frames, the scan for those who ask, the tiles of kernels, and what a search costs.
 #[derive(Drop)]
 pub struct Tools {
     pub stack: Stack,
     pub scan: Scan,
     pub tiles: Tiles,
+    /// What the worker owes for its last search.
+    pub owed: u32,
 }
 
 /// All room that a worker takes, made for one program.
@@ -40,7 +42,12 @@ impl Scratch {
         let scan = Scan::reserve(alloc, objects(program), RECORDS)?;
         let tiles = Tiles::new(alloc)?;
         let firsts = firsts_of(alloc, program)?;
-        let tools = Tools { stack, scan, tiles };
+        let tools = Tools {
+            stack,
+            scan,
+            tiles,
+            owed: 0,
+        };
         Ok(Scratch { tools, firsts })
     }
 }

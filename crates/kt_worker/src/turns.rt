@@ -8,6 +8,7 @@ ghost use Rattle.kt_worker.specs.Turns.{IsAboutToStart};
 
 use crate::asking::{Gotten, ask};
 use crate::beginning::run_begun;
+use crate::costs::{after_pause, after_search};
 use crate::finishing::finish;
 use crate::gates::Gate;
 use crate::looping::run_own;
@@ -50,7 +51,7 @@ fn run_given<'a, R: Run, G: Gate, W: Wait>(
 }
 
 /// Asks for work once, and runs what it is given.
-fn steal<'a, R: Run, G: Gate, W: Wait>(
+fn search<'a, R: Run, G: Gate, W: Wait>(
     rt: &W,
     worker: Worker<'a, R>,
     tools: &mut Tools,
@@ -73,7 +74,9 @@ fn steal<'a, R: Run, G: Gate, W: Wait>(
     } = worker;
     let victim = next_victim(tally.victim, run.workers());
     tally.victim = victim;
+    tools.scan.restart();
     let found = ask(rt, &mut run, &mut tools.scan, victim, pause);
+    tools.owed = after_search(found, tools.scan.seen().len(), run.workers());
     let mut worker = Worker {
         run,
         program,
@@ -96,6 +99,29 @@ fn steal<'a, R: Run, G: Gate, W: Wait>(
             run_own(rt, worker, at)
         }
     }
+}
+
+/// Pauses where the last search is not paid for yet. Else it asks for work once.
+fn steal<'a, R: Run, G: Gate, W: Wait>(
+    rt: &W,
+    worker: Worker<'a, R>,
+    tools: &mut Tools,
+    gate: &G,
+) -> (Worker<'a, R>, bool)
+    requires calm { Calm (R.view worker.run) worker.program.now worker.tally tools.old.stack.levels }
+    requires accepted { IsAccepted worker.program.now }
+    requires firsts { HasFirsts worker.program.now.families worker.firsts.now }
+    requires room { HasRoom worker.program.now tools.old }
+    ensures turns { Turns (R.view worker.entry.run) (R.view result.0.run) worker.entry.program.now result.0.tally tools.new.stack.levels result.1 }
+    ensures room { HasRoom worker.entry.program.now tools.new }
+    ensures program { (result.0.program.now ≡ worker.entry.program.now) × (result.0.firsts.now ≡ worker.entry.firsts.now) }
+{
+    if tools.owed == 0 {
+        return search(rt, worker, tools, gate);
+    }
+    tools.owed = after_pause(tools.owed);
+    worker.pause.snooze();
+    (worker, true)
 }
 
 /// Pauses the first times, since whoever took an entry may be about to finish it, and a search for work goes through all records of a

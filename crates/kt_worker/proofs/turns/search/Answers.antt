@@ -11,7 +11,7 @@ use Rattle.kt_worker.specs.declared.stacks.Level.{Level}
 use Rattle.kt_worker.specs.declared.tallies.Tally.{Tally}
 use Rattle.kt_worker.proofs.Intervals.{interval_crew, interval_none_taken, interval_run, piece_crew, piece_held, piece_inside, piece_may, ran_own}
 use Rattle.kt_worker.proofs.Turning.{calm_answered, calm_crew, calm_idle, calm_victim, extends_learnt, setup_one, turns_after, victim_below}
-use Rattle.kt_worker.proofs.turns.steal.Goals as goal
+use Rattle.kt_worker.proofs.turns.search.Goals as goal
 
 pub next_victim-victim-requires : goal.next_victim-victim-requires
 next_victim-victim-requires g c =
@@ -27,8 +27,8 @@ ask-found-requires g c =
       crew = calm_crew _ _ _ _ c.requires.calm;
       victim = victim_below _ _ _ _ c.requires.calm _ c.workers.result (c.workers.ensures q.setup q.told) c.next_victim-victim.ensures;
       idle = calm_idle _ _ _ _ c.requires.calm;
-      objects = λ j told. rw (setup_one _ _ _ _ c.requires.calm j told) c.requires.room.objects;
-      entries = c.requires.room.entries;
+      objects = λ j told. rw (c.restart.ensures.room.objects, setup_one _ _ _ _ c.requires.calm j told) c.requires.room.objects;
+      entries = rw c.restart.ensures.room.entries c.requires.room.entries;
     }
 
 pub returns-in-Nothing-clause-turns : goal.returns-in-Nothing-clause-turns
