@@ -13,6 +13,7 @@ use Rattle.kt_prog.specs.Runs.{FaultRun}
 use Rattle.kt_prog.specs.Script.{Fault}
 use Rattle.kt_faults.specs.First.{earlier, IsAmong, IsFirst, AtMostOne, AreSame}
 use Rattle.kt_faults.specs.Laws.{EarlierIsFirst}
+use Rattle.kt_faults.proofs.Firsts.{among_left, among_right}
 use Rattle.kt_runs.specs.ByPath.{Path}
 use Rattle.kt_rule.specs.declared.views.Setup.{Setup}
 use Rattle.kt_rule.specs.declared.views.Execution.{Execution}
@@ -50,15 +51,6 @@ first_of_all law j (d ∷ done) least fs first each =
     (first_of_all law j done (earlier least d.fault) (fs ++ own) (law least d.fault fs own first (each d here)) (λ x i. each x (there i)))
 
 -- MEMBERS
-
-among_left : (f : FaultRun) (fs gs : List FaultRun) → IsAmong f fs → IsAmong f (fs ++ gs)
-among_left f [] gs h = absurd h
-among_left f (x ∷ fs) gs (inl e) = inl e
-among_left f (x ∷ fs) gs (inr h) = inr (among_left f fs gs h)
-
-among_right : (f : FaultRun) (fs gs : List FaultRun) → IsAmong f gs → IsAmong f (fs ++ gs)
-among_right f [] gs h = h
-among_right f (x ∷ fs) gs h = inr (among_right f fs gs h)
 
 among_either : (f : FaultRun) (fs gs : List FaultRun) → IsAmong f (fs ++ gs) → IsAmong f fs ⊎ IsAmong f gs
 among_either f [] gs h = inr h

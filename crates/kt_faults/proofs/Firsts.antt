@@ -9,12 +9,12 @@ use Rattle.kt_faults.specs.First.{earlier, IsAmong, IsFirst, AtMostOne, AreSame,
 use Rattle.kt_faults.specs.Laws.{EarlierIsFirst, FirstIsAnswer, SameFaultsSameAnswer}
 use Rattle.kt_faults.proofs.Order.{not_later, not_through, first_in, first_least, neither_fault}
 
-among_left : (f : FaultRun) (fs gs : List FaultRun) → IsAmong f fs → IsAmong f (fs ++ gs)
+pub among_left : (f : FaultRun) (fs gs : List FaultRun) → IsAmong f fs → IsAmong f (fs ++ gs)
 among_left f [] gs h = absurd h
 among_left f (x ∷ fs) gs (inl e) = inl e
 among_left f (x ∷ fs) gs (inr h) = inr (among_left f fs gs h)
 
-among_right : (f : FaultRun) (fs gs : List FaultRun) → IsAmong f gs → IsAmong f (fs ++ gs)
+pub among_right : (f : FaultRun) (fs gs : List FaultRun) → IsAmong f gs → IsAmong f (fs ++ gs)
 among_right f [] gs h = h
 among_right f (x ∷ fs) gs h = inr (among_right f fs gs h)
 
@@ -26,7 +26,7 @@ all_each : (P Q : FaultRun → Type 0) (fs : List FaultRun) → ((f : FaultRun) 
 all_each P Q [] h a = a
 all_each P Q (x ∷ fs) h a = (h x a.0, all_each P Q fs h a.1)
 
-all_at : (P : FaultRun → Type 0) (f : FaultRun) (fs : List FaultRun) → AllOf P fs → IsAmong f fs → P f
+pub all_at : (P : FaultRun → Type 0) (f : FaultRun) (fs : List FaultRun) → AllOf P fs → IsAmong f fs → P f
 all_at P f [] a h = absurd h
 all_at P f (x ∷ fs) a (inl e) = subst P (sym e) a.0
 all_at P f (x ∷ fs) a (inr h) = all_at P f fs a.1 h

@@ -5,7 +5,8 @@ use Rattle.kt_prog.specs.Calls.{CallTree}
 use Rattle.kt_runs.specs.ByPath.{Path}
 use Rattle.kt_rule.specs.declared.views.Spot.{Spot}
 use Rattle.kt_rule.specs.declared.views.View.{View}
-use Rattle.kt_rule.specs.Lists.{In, here, there}
+use Rattle.kt_rule.specs.Lists.{In}
+use Rattle.kt_rule.proofs.Sums.{in_right}
 use Rattle.kt_steps.specs.Told.{IsMine}
 use Rattle.kt_loops.specs.Operations.{DidOne, IsNextOn}
 use Rattle.kt_tasks.specs.Claims.{Claimed}
@@ -32,10 +33,6 @@ did_same v w n element d (inl q) h =
 did_same v w n element d (inr (none, q)) h =
     same_as v w _ (h.1 none q.setup q.told q.head q.rest q.runs q.act q.more q.next) (record { setup = refl; parts = refl; worker = refl })
 
-in_behind : (p : Path) (xs ys : List Path) → In p ys → In p (xs ++ ys)
-in_behind p [] ys i = i
-in_behind p (x ∷ xs) ys i = there (in_behind p xs ys i)
-
 -- what a leader has served, where it held nothing before
 pub serves : (v w : View) → v.tasks.promised ≡ [] → ServedOnly v w → Serves v w
 serves v w none s = record {
@@ -47,7 +44,7 @@ serves v w none s = record {
   });
   free = ap (λ (y : View). y.desk.free) s.same;
   leads = ap (λ (y : View). y.desk.leads) s.same;
-  known = λ p i. subst (In p) (sym s.extends.known.1) (in_behind p s.extends.known.0 v.seen.known i);
+  known = λ p i. subst (In p) (sym s.extends.known.1) (in_right s.extends.known.0 v.seen.known p i);
 }
 
 pub claimed_same : (v w : View) (at : ℕ) (c : Claim) (m : Spot) → IsMine v at m → Claimed v at w c → IsSame v w

@@ -8,7 +8,7 @@ use Rattle.kt_order.specs.Machine.{Code}
 use Rattle.kt_order.specs.Sequential.{Entry}
 use Rattle.kt_order.specs.Shown.{fault_of}
 use Rattle.kt_faults.specs.First.{earlier, IsAmong, IsFirst}
-use Rattle.kt_faults.proofs.Firsts.{earlier_first}
+use Rattle.kt_faults.proofs.Firsts.{all_at, among_left, among_right, earlier_first}
 use Rattle.kt_faults.proofs.Order.{irreflexive}
 use Rattle.kt_prog.specs.Calls.{Index}
 use Rattle.kt_prog.specs.Entries.{fault_in, faults_of}
@@ -27,24 +27,10 @@ use Rattle.kt_intervals.proofs.Stands.{over_left}
 
 -- MEMBERS
 
-among_left : (f : FaultRun) (fs gs : List FaultRun) → IsAmong f fs → IsAmong f (fs ++ gs)
-among_left f [] gs h = absurd h
-among_left f (x ∷ fs) gs (inl e) = inl e
-among_left f (x ∷ fs) gs (inr h) = inr (among_left f fs gs h)
-
-among_right : (f : FaultRun) (fs gs : List FaultRun) → IsAmong f gs → IsAmong f (fs ++ gs)
-among_right f [] gs h = h
-among_right f (x ∷ fs) gs h = inr (among_right f fs gs h)
-
-among_either : (f : FaultRun) (fs gs : List FaultRun) → IsAmong f (fs ++ gs) → IsAmong f fs ⊎ IsAmong f gs
+pub among_either : (f : FaultRun) (fs gs : List FaultRun) → IsAmong f (fs ++ gs) → IsAmong f fs ⊎ IsAmong f gs
 among_either f [] gs h = inr h
 among_either f (x ∷ fs) gs (inl e) = inl (inl e)
 among_either f (x ∷ fs) gs (inr h) = elim (among_either f fs gs h) [ inl k ↦ inl (inr k) | inr k ↦ inr k ]
-
-all_at : (P : FaultRun → Type 0) (f : FaultRun) (fs : List FaultRun) → AllOf P fs → IsAmong f fs → P f
-all_at P f [] a h = absurd h
-all_at P f (x ∷ fs) a (inl e) = subst P (sym e) a.0
-all_at P f (x ∷ fs) a (inr h) = all_at P f fs a.1 h
 
 all_from : (P : FaultRun → Type 0) (fs : List FaultRun) → ((f : FaultRun) → IsAmong f fs → P f) → AllOf P fs
 all_from P [] h = tt

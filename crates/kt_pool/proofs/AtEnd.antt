@@ -46,6 +46,7 @@ use Rattle.kt_steps.proofs.Drawing.{weigh_less}
 use Rattle.kt_steps.proofs.Indexed.{taken_is, index_is}
 use Rattle.kt_steps.proofs.LoopSeats.{weigh_hands}
 use Rattle.kt_steps.proofs.Steps.{inside}
+use Rattle.kt_steps.proofs.Telling.{the_some}
 use Rattle.kt_pool.specs.declared.closing.Closed.{Closed}
 use Rattle.kt_pool.specs.Exact.{reference_of}
 use Rattle.kt_pool.specs.Closing.{IsOfReference, Closes, KnowsMain, KnowsStop, Limits}
@@ -53,9 +54,6 @@ use Rattle.kt_pool.specs.Seats.{all_together}
 use Rattle.kt_pool.proofs.AsReference.{run_is_reference, answered_many, is_reference}
 use Rattle.kt_pool.proofs.Together.{all_know_main, all_know_stop}
 use Rattle.kt_pool.proofs.Paths.{none_in}
-
-pub the_some : {X : Type 0} → {x y : X} → Some x ≡ Some y → x ≡ y
-the_some h = cc
 
 -- ENTRIES
 

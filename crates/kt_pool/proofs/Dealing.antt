@@ -7,6 +7,7 @@ use Rattle.kt_rule.specs.declared.views.Setup.{Setup}
 use Rattle.kt_rule.specs.declared.views.View.{View}
 use Rattle.kt_rule.specs.Close.{first_view, keeps_most, newcomer}
 use Rattle.kt_rule.specs.Records.{layout_of}
+use Rattle.kt_steps.proofs.Telling.{the_some}
 use Rattle.kt_pool.specs.Seats.{view_at_start, IsSeatOf, AreSeatsOf, HaveNotStepped}
 
 -- what worker 0 knows when the seat of worker w is next
@@ -32,9 +33,6 @@ pub record IsNew (j : Setup) (t : RunTable) (k : ℕ) (s : Seat) : Type 0 where
   pub seat : IsSeatOf j t k s
   pub view : s.token.me.0 ≡ view_at_start j k
   pub fresh : s.word ≡ 0
-
-the_some : {X : Type 0} → {x y : X} → Some x ≡ Some y → x ≡ y
-the_some h = cc
 
 module _ (j : Setup) (t : RunTable) where
   pub first_seat : (s : Seat) (w : ℕ) → layout_of j ≡ t.layout → s.token.table_id ≡ t.table.shared.table_id → s.token.me.1 ≡ []

@@ -22,13 +22,11 @@ use Rattle.kt_rule.specs.Close.{IsOpening, first_view}
 use Rattle.kt_rule.proofs.Puts.{put_here, get_at}
 use Rattle.kt_steps.proofs.Seats as seats
 use Rattle.kt_steps.proofs.Showing.{shown_is}
+use Rattle.kt_steps.proofs.Telling.{the_some}
 use Rattle.kt_prog.specs.Accepted.{IsAccepted}
 use Rattle.kt_prog.specs.declared.programs.Program.{Program}
 use Rattle.kt_pool.specs.Openings.{OpensWith}
 use Rattle.kt_pool.specs.Seats.{setup_of}
-
-the_some : {X : Type 0} → {x y : X} → Some x ≡ Some y → x ≡ y
-the_some h = cc
 
 -- a table as it is made, whose seat was told nothing
 pub holds_blank : (ws : List ℕ) → Holds ws (opening ws [] blank_view)

@@ -3,22 +3,11 @@ use Rattle.std.proofs.Common.{◌≡◌, ℕ, zero, suc, ◌||◌, Bool, true, f
 use Rattle.std.specs.List.{flat_map}
 use Rattle.kt_rule.specs.declared.seats.Seat.{Seat}
 use Rattle.kt_rule.specs.declared.views.View.{View}
-use Rattle.kt_rule.specs.Lists.{In, here, there}
 use Rattle.kt_rule.specs.Close.{together}
+use Rattle.kt_rule.proofs.Sums.{in_left, in_right}
+use Rattle.kt_steps.proofs.Telling.{the_some}
 use Rattle.kt_pool.specs.Closing.{SomeSeat, KnowsMain, KnowsStop, IsOfAll}
 use Rattle.kt_pool.specs.Seats.{taken_in, all_together}
-
-the_some : {X : Type 0} → {x y : X} → Some x ≡ Some y → x ≡ y
-the_some h = cc
-
-in_left : {A : Type 0} (x : A) (xs ys : List A) → In x xs → In x (xs ++ ys)
-in_left x [] ys i = elim i [ ]
-in_left x (z ∷ xs) ys here = here
-in_left x (z ∷ xs) ys (there i) = there (in_left x xs ys i)
-
-in_right : {A : Type 0} (x : A) (xs ys : List A) → In x ys → In x (xs ++ ys)
-in_right x [] ys i = i
-in_right x (z ∷ xs) ys i = there (in_right x xs ys i)
 
 -- a fact that a join keeps of both views
 module _ (Knows : View → Type 0) (left : (v w : View) → Knows v → Knows (together v w)) (right : (v w : View) → Knows w → Knows (together v w))
@@ -47,7 +36,7 @@ or_right true b e = refl
 or_right false b e = e
 
 pub all_know_main : (seats : List Seat) → SomeSeat KnowsMain seats → KnowsMain (all_together seats)
-all_know_main = all_know KnowsMain (λ v w. in_left [] v.seen.known w.seen.known) (λ v w. in_right [] v.seen.known w.seen.known)
+all_know_main = all_know KnowsMain (λ v w. in_left v.seen.known w.seen.known []) (λ v w. in_right v.seen.known w.seen.known [])
 
 pub all_know_stop : (seats : List Seat) → SomeSeat KnowsStop seats → KnowsStop (all_together seats)
 all_know_stop = all_know KnowsStop (λ v w. or_left v.seen.stop w.seen.stop) (λ v w. or_right v.seen.stop w.seen.stop)

@@ -44,15 +44,18 @@ impl Closed {
         mut rows: Vec<u64>,
         token: Seat<(), View>,
     ) -> (Closed, Record)
-        requires table { (total_of layout ≤ table.shared.table_id.words) × (table.shared.table_id.slots ≡ 0) }
+        requires table { (total_of layout ≤ table.shared.table_id.words)
+            × (table.shared.table_id.slots ≡ 0) }
         requires room { (rows.items ≡ []) × (layout.elements ≤ vec_capacity rows) }
         requires seat { token.table_id ≡ table.shared.table_id }
-        requires told { (j : Setup) × (token.me.0.setup ≡ Some j) × (layout_of j ≡ layout) × (token.me.0.parts ≡ j.workers) × (0 < j.workers) }
+        requires told { (j : Setup) × (token.me.0.setup ≡ Some j) × (layout_of j ≡ layout)
+            × (token.me.0.parts ≡ j.workers) × (0 < j.workers) }
         ensures count { length result.0.rows.items ≡ layout.elements }
         ensures joined { joined_view result.1 ≡ token.me.0 }
         ensures workers { workers_of result.1 ≡ layout.workers }
         ensures limit { limit_of result.1 ≡ result.0.limit }
-        ensures closes { (j : Setup) → token.me.0.setup ≡ Some j → Closes j result.0 (joined_view result.1) }
+        ensures closes { (j : Setup) → token.me.0.setup ≡ Some j
+            → Closes j result.0 (joined_view result.1) }
     {
         let kept = Perch::new(&token, 0);
         let words = table.close_with(token);

@@ -36,7 +36,8 @@ pub fn seats_of(
 ) -> Vec<Seat>
     requires room { (seats.items ≡ []) × (workers ≤ vec_capacity seats) }
     requires seat { (first.table_id ≡ t.now.table.shared.table_id) × (first.me.1 ≡ []) }
-    requires told { (j : Setup) × (first.me.0 ≡ first_view j) × (j.workers ≡ workers) × (layout_of j ≡ t.now.layout) × (0 < workers) }
+    requires told { (j : Setup) × (first.me.0 ≡ first_view j) × (j.workers ≡ workers)
+        × (layout_of j ≡ t.now.layout) × (0 < workers) }
     ensures seats { (j : Setup) → first.me.0 ≡ first_view j → AreSeatsOf j t.now result.items }
     ensures views { (j : Setup) → first.me.0 ≡ first_view j → HaveNotStepped j result.items }
 {
@@ -62,7 +63,8 @@ pub fn gather(t: &RunTable, mut seats: Vec<Seat>) -> atomic_table::Seat<(), View
     requires { (j : Setup) × AreSeatsOf j t.now seats.items }
     ensures seat { (result.table_id ≡ t.now.table.shared.table_id) × (result.me.1 ≡ []) }
     ensures joined { result.me.0 ≡ all_together seats.items }
-    ensures told { (j : Setup) → AreSeatsOf j t.now seats.items → (result.me.0.setup ≡ Some j) × (result.me.0.parts ≡ j.workers) }
+    ensures told { (j : Setup) → AreSeatsOf j t.now seats.items → (result.me.0.setup ≡ Some j)
+        × (result.me.0.parts ≡ j.workers) }
 {
     let Seat {
         token: mut first,

@@ -48,7 +48,8 @@ pub fn opening_words(
     requires some { 1 ≤ layout.now.workers }
     requires few { layout.now.workers ≤ WORKERS }
     requires layout { layout.now ≡ layout_of (setup_of program.now input.now layout.now.workers) }
-    ensures opening { IfOk result (λ words. IsOpening (setup_of program.now input.now layout.now.workers) words.items) }
+    ensures opening { IfOk result (λ words.
+        IsOpening (setup_of program.now input.now layout.now.workers) words.items) }
     ensures count { IfOk result (λ words. length words.items ≡ total_of layout.now) }
 {
     let store = PlainStore::open(alloc, program, input)?;
@@ -99,7 +100,8 @@ fn tell<M: SetupIs>(
     requires seat { s.old.table_id ≡ t.now.table_id }
     requires words { (0 < t.now.table_id.words) × (t.now.table_id.slots ≡ 0) }
     requires blank { s.old.me.0 ≡ blank_view }
-    requires setup { (j : Setup) × (M.setup ≡ Some j) × IsAccepted j.program × (0 < j.workers) × (j.workers ≤ WORKERS) × IsOpening j t.now.key.items }
+    requires setup { (j : Setup) × (M.setup ≡ Some j) × IsAccepted j.program × (0 < j.workers)
+        × (j.workers ≤ WORKERS) × IsOpening j t.now.key.items }
     ensures seat { (s.new.table_id ≡ s.old.table_id) × (s.new.me.1 ≡ s.old.me.1) }
     ensures told { (j : Setup) → M.setup ≡ Some j → s.new.me.0 ≡ first_view j }
 {

@@ -54,11 +54,16 @@ impl Pool {
         requires whole { length input.now ≡ inputs_of program.now.families }
         requires some { 1 ≤ workers }
         requires few { workers ≤ WORKERS }
-        ensures layout { IfOk result (λ r. (run_table r.0).layout ≡ layout_of (setup_of program.now input.now workers)) }
-        ensures words { IfOk result (λ r. (run_table r.0).table.shared.table_id.words ≡ total_of (run_table r.0).layout) }
-        ensures opening { IfOk result (λ r. IsOpening (setup_of program.now input.now workers) (run_table r.0).table.shared.key.items) }
-        ensures seats { IfOk result (λ r. AreSeatsOf (setup_of program.now input.now workers) (run_table r.0) r.1.items) }
-        ensures views { IfOk result (λ r. HaveNotStepped (setup_of program.now input.now workers) r.1.items) }
+        ensures layout { IfOk result (λ r. (run_table r.0).layout
+            ≡ layout_of (setup_of program.now input.now workers)) }
+        ensures words { IfOk result (λ r. (run_table r.0).table.shared.table_id.words
+            ≡ total_of (run_table r.0).layout) }
+        ensures opening { IfOk result (λ r.
+            IsOpening (setup_of program.now input.now workers) (run_table r.0).table.shared.key.items) }
+        ensures seats { IfOk result (λ r.
+            AreSeatsOf (setup_of program.now input.now workers) (run_table r.0) r.1.items) }
+        ensures views { IfOk result (λ r.
+            HaveNotStepped (setup_of program.now input.now workers) r.1.items) }
     {
         let layout = layout_of(program, workers);
         let rows = Vec::with_capacity(alloc, layout.elements as usize)?;
@@ -86,9 +91,12 @@ impl Pool {
         ensures lists { IsOfAll (joined_view result.1) seats.items }
         ensures workers { workers_of result.1 ≡ (run_table self).layout.workers }
         ensures limit { limit_of result.1 ≡ result.0.limit }
-        ensures closes { (j : Setup) → AreSeatsOf j (run_table self) seats.items → Closes j result.0 (joined_view result.1) }
-        ensures limited { (j : Setup) → AreSeatsOf j (run_table self) seats.items → Limits j result.0 seats.items }
-        ensures whole { (j : Setup) → AreSeatsOf j (run_table self) seats.items → SomeSeat KnowsMain seats.items → IsReferenceRun j result.0 (joined_view result.1) }
+        ensures closes { (j : Setup) → AreSeatsOf j (run_table self) seats.items
+            → Closes j result.0 (joined_view result.1) }
+        ensures limited { (j : Setup) → AreSeatsOf j (run_table self) seats.items
+            → Limits j result.0 seats.items }
+        ensures whole { (j : Setup) → AreSeatsOf j (run_table self) seats.items
+            → SomeSeat KnowsMain seats.items → IsReferenceRun j result.0 (joined_view result.1) }
     {
         let token = gather(&self.table, seats);
         let Pool {

@@ -2,44 +2,28 @@
 ghost use Rattle.std.specs.Prelude.{◌≡◌, ◌<◌, None, Some, length, slice_get};
 ghost use Rattle.kt_tables.specs.TableLaws.{faults_at, faults_in};
 ghost use Rattle.kt_tables.specs.Tables.{TaskRow};
-ghost use Rattle.kt_sim.specs.Answering.{least_with, lesser};
+ghost use Rattle.kt_sim.specs.Answering.{least_among};
 
 use kt_core::Core;
+use kt_faults::earlier;
 use kt_prog::FaultAt;
-
-/// The earlier one of two faults that there may be.
-fn least_of(least: Option<FaultAt>, fault: Option<FaultAt>) -> Option<FaultAt>
-    ensures { result ≡ lesser least fault }
-{
-    match (least, fault) {
-        (least, None) => least,
-        (None, Some(fault)) => Some(fault),
-        (Some(least), Some(fault)) => {
-            if fault.is_before(&least) {
-                Some(fault)
-            } else {
-                Some(least)
-            }
-        }
-    }
-}
 
 /// The least of a fault that there may be and those of a task and its indexes.
 fn least_at(core: &Core, task: u32, least: Option<FaultAt>) -> Option<FaultAt>
     requires { task < length core.now.table.tasks }
-    ensures { (r : TaskRow) → slice_get core.now.table.tasks task ≡ Some r → result ≡ least_with least (faults_at core.now.program r) }
+    ensures { (r : TaskRow) → slice_get core.now.table.tasks task ≡ Some r → result ≡ least_among least (faults_at core.now.program r) }
 {
     core.is_lawful();
-    let mut least = least_of(least, core.fault(task));
+    let mut least = earlier(least, core.fault(task));
     for index in 0..core.call(task).length {
-        least = least_of(least, core.index_fault(task, index));
+        least = earlier(least, core.index_fault(task, index));
     }
     least
 }
 
 /// The least fault of all tasks and indexes.
 pub fn least_fault(core: &Core) -> Option<FaultAt>
-    ensures { result ≡ least_with None (faults_in core.now.program core.now.table.tasks) }
+    ensures { result ≡ least_among None (faults_in core.now.program core.now.table.tasks) }
 {
     let mut least = None;
     for task in 0..core.tasks() {

@@ -5,7 +5,7 @@ ghost use Rattle.kt_prog.specs.Accepted.{IsAccepted};
 ghost use Rattle.kt_prog.specs.Objects.{elements_of, inputs_of};
 ghost use Rattle.kt_prog.specs.Outcome.{outcome_of};
 ghost use Rattle.kt_prog.specs.declared.runs.Outcome.TheVariants.{Limit, Rows};
-ghost use Rattle.kt_sim.specs.Answering.{limit_ran};
+ghost use Rattle.kt_frames.specs.Rest.{limit_ran};
 ghost use Rattle.kt_sim.specs.Simulated.{IsCalm, IsOver};
 ghost use Rattle.kt_tables.specs.Tables.{MainIsFinished, count_indexes};
 

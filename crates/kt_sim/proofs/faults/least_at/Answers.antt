@@ -1,6 +1,7 @@
 use Rattle.std.proofs.Common.{◌≡◌, ◌≤◌, ◌+◌, suc, length, refl, sym, ap, ◌∙◌, arith, drop}
 use Rattle.kt_prog.specs.Calls.{CallTree}
-use Rattle.kt_sim.specs.Answering.{least_with, lesser}
+use Rattle.kt_faults.specs.First.{earlier}
+use Rattle.kt_sim.specs.Answering.{least_among}
 use Rattle.kt_tables.specs.TableLaws.{index_faults_from}
 use Rattle.kt_sim.proofs.Facts.{long}
 use Rattle.kt_sim.proofs.LeastFaults.{least_task, least_index, least_past}
@@ -8,15 +9,15 @@ use Rattle.kt_sim.proofs.faults.least_at.Goals as goal
 
 pub loop-index-init : goal.loop-index-init
 loop-index-init c = λ r e.
-    ap (λ o. least_with o (index_faults_from c.args.core.now.program r.path r.call 0 r.loop.indexes)) (c.least_of-least.ensures ∙ ap (lesser c.args.least) (c.fault.ensures r e))
+    ap (λ o. least_among o (index_faults_from c.args.core.now.program r.path r.call 0 r.loop.indexes)) (c.earlier-least.ensures ∙ ap (earlier c.args.least) (c.fault.ensures r e))
     ∙ least_task c.args.core.now.program c.args.least r
 
 pub loop-index-preserved : goal.loop-index-preserved
 loop-index-preserved c = λ r e.
     let k = c.loop-index.index in
     let next : k + 1 ≡ suc k = omega arith in
-    ap (λ o. least_with o (index_faults_from c.args.core.now.program r.path r.call (k + 1) (drop (k + 1) r.loop.indexes)))
-    (c.least_of-least-in-loop-index.ensures ∙ ap (lesser c.loop-index.least) (c.index_fault.ensures r e))
+    ap (λ o. least_among o (index_faults_from c.args.core.now.program r.path r.call (k + 1) (drop (k + 1) r.loop.indexes)))
+    (c.earlier-least-in-loop-index.ensures ∙ ap (earlier c.loop-index.least) (c.index_fault.ensures r e))
     ∙ least_index c.args.core.now.program r.path r.call r.loop.indexes k (k + 1) c.loop-index.least next ∙ c.loop-index.invariant r e
 
 pub returns : goal.returns

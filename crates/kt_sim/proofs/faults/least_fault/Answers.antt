@@ -1,5 +1,5 @@
 use Rattle.std.proofs.Common.{◌≡◌, ◌<◌, ◌+◌, suc, length, ap, ◌∙◌, arith, drop}
-use Rattle.kt_sim.specs.Answering.{least_with}
+use Rattle.kt_sim.specs.Answering.{least_among}
 use Rattle.kt_tables.specs.TableLaws.{faults_in}
 use Rattle.kt_sim.proofs.Outside.{row_there}
 use Rattle.kt_sim.proofs.LeastFaults.{least_step}
@@ -13,5 +13,5 @@ loop-task-preserved c =
     let below : k < length tasks = omega (arith, c.loop-task-test.true, c.tasks-task-end.ensures) in
     let r = row_there tasks k below in
     let next : k + 1 ≡ suc k = omega arith in
-    ap (λ o. least_with o (faults_in p (drop (k + 1) tasks))) (c.least_at-least.ensures r.0 r.1)
+    ap (λ o. least_among o (faults_in p (drop (k + 1) tasks))) (c.least_at-least.ensures r.0 r.1)
     ∙ least_step p tasks k (k + 1) r.0 c.loop-task.least next r.1 ∙ c.loop-task.invariant

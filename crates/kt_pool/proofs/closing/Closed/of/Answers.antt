@@ -2,9 +2,10 @@ use Rattle.std.proofs.Common.{arith, ◌<◌, ◌∙◌, ap, sym, subst, refl, s
 use Rattle.std.specs.Mem.Slots.{slots_items}
 use Rattle.kt_words.specs.Places.{place}
 use Rattle.kt_rule.specs.Records.{drawn_at, positions_at, layout_of}
+use Rattle.kt_steps.proofs.Telling.{the_some}
 use Rattle.kt_pool.specs.declared.closing.Closed.{Closed}
 use Rattle.kt_pool.specs.Closing.{Closes}
-use Rattle.kt_pool.proofs.AtEnd.{found_word, seen_few, seen_few_positions, seen_closes, the_some}
+use Rattle.kt_pool.proofs.AtEnd.{found_word, seen_few, seen_few_positions, seen_closes}
 use Rattle.kt_pool.proofs.closing.Closed.of.Goals as goal
 
 pub overflow_cast-tasks : goal.overflow_cast-tasks
