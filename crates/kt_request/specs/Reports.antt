@@ -7,6 +7,7 @@ use Rattle.kt_words.specs.declared.pairs.Pair.{Pair}
 use Rattle.kt_runs.specs.ByPath.{Path}
 use Rattle.kt_ready.specs.declared.verdicts.Seen.{Seen}
 use Rattle.kt_ready.specs.Contents.{Contents}
+use Rattle.kt_rule.specs.declared.seats.Seat.{Seat}
 use Rattle.kt_rule.specs.declared.views.View.{View}
 use Rattle.kt_rule.specs.declared.views.Note.{Note}
 use Rattle.kt_rule.specs.declared.views.Found.{Found}
@@ -19,6 +20,10 @@ use Rattle.kt_posts.specs.declared.answers.Answer.TheVariants as A
 use Rattle.kt_posts.specs.Told.{IsPostWord}
 use Rattle.kt_request.specs.declared.served.Served.{Served}
 use Rattle.kt_request.specs.Notes.{InRow, Noted, ready_records}
+
+-- the seat is of the same table and of the same worker, and holds the same slots of it
+abbrev pub IsSameSeat : Seat → Seat → Type 0
+IsSameSeat s s' = (s'.token.table_id ≡ s.token.table_id) × (s'.token.me.1 ≡ s.token.me.1) × (s'.worker ≡ s.worker)
 
 -- the posts of the workers from this one on were looked at in order, each once
 abbrev pub InOrder : ℕ → List Found → Type 0

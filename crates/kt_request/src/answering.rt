@@ -2,7 +2,7 @@
 ghost use Rattle.std.specs.Prelude.{◌≡◌, ℕ, ◌+◌, ◌-◌, ◌<◌, ◌≤◌, List, ◌∷◌, length, drop, slice_index};
 ghost use Rattle.kt_rule.specs.declared.views.Share.{Share};
 ghost use Rattle.kt_rule.specs.declared.views.View.{View};
-ghost use Rattle.kt_request.specs.Reports.{deal, split_pieces, split_record};
+ghost use Rattle.kt_request.specs.Reports.{IsSameSeat, deal, split_pieces, split_record};
 ghost use Rattle.kt_request.specs.Serving.{Answering, Rising};
 ghost use Rattle.kt_steps.specs.Told.{IsLiveOf};
 
@@ -23,12 +23,19 @@ pub(crate) fn answer_all(
 ) -> ArrayVec<Answer, THIEVES>
     requires seat { s.old.token.table_id ≡ t.now.table.shared.table_id }
     requires live { IsLiveOf t.now.layout s.old.worker s.old.token.me.0 }
-    requires held { (length held.now ≤ 8) × Rising held.now × Rising given.now × ((j : ℕ) → j < length held.now → slice_index held.now j < t.now.layout.workers) }
-    requires answering { (others : List Share) × Answering held.now given.now (split_record cut.now) (split_pieces cut.now) others s.old.token.me.0 0 s.old.token.me.0 }
-    ensures seat { (s.new.token.table_id ≡ s.old.token.table_id) × (s.new.token.me.1 ≡ s.old.token.me.1) × (s.new.worker ≡ s.old.worker) }
-    ensures answering { (others : List Share) → Answering held.now given.now (split_record cut.now) (split_pieces cut.now) others s.old.token.me.0 0 s.old.token.me.0
-        → Answering held.now given.now (split_record cut.now) (split_pieces cut.now) others s.old.token.me.0 (length held.now) s.new.token.me.0 }
-    ensures answers { result.items ≡ deal held.now given.now (split_record cut.now) (split_pieces cut.now) }
+    requires held { (length held.now ≤ 8) × Rising held.now × Rising given.now
+        × ((j : ℕ) → j < length held.now → slice_index held.now j < t.now.layout.workers) }
+    requires answering { (others : List Share)
+        × Answering held.now given.now (split_record cut.now) (split_pieces cut.now) others
+        s.old.token.me.0 0 s.old.token.me.0 }
+    ensures seat { IsSameSeat s.old s.new }
+    ensures answering { (others : List Share)
+        → Answering held.now given.now (split_record cut.now) (split_pieces cut.now) others
+        s.old.token.me.0 0 s.old.token.me.0
+        → Answering held.now given.now (split_record cut.now) (split_pieces cut.now) others
+        s.old.token.me.0 (length held.now) s.new.token.me.0 }
+    ensures answers { result.items
+        ≡ deal held.now given.now (split_record cut.now) (split_pieces cut.now) }
 {
     match cut {
         Some(Divided::Got(at, pieces)) => answer_each(t, s, held, given, *at, pieces.as_slice()),
@@ -49,11 +56,15 @@ fn answer_each(
 ) -> ArrayVec<Answer, THIEVES>
     requires seat { s.old.token.table_id ≡ t.now.table.shared.table_id }
     requires live { IsLiveOf t.now.layout s.old.worker s.old.token.me.0 }
-    requires held { (length held.now ≤ 8) × Rising held.now × Rising given.now × ((j : ℕ) → j < length held.now → slice_index held.now j < t.now.layout.workers) }
-    requires answering { (others : List Share) × Answering held.now given.now at pieces.now others s.old.token.me.0 0 s.old.token.me.0 }
-    ensures seat { (s.new.token.table_id ≡ s.old.token.table_id) × (s.new.token.me.1 ≡ s.old.token.me.1) × (s.new.worker ≡ s.old.worker) }
-    ensures answering { (others : List Share) → Answering held.now given.now at pieces.now others s.old.token.me.0 0 s.old.token.me.0
-        → Answering held.now given.now at pieces.now others s.old.token.me.0 (length held.now) s.new.token.me.0 }
+    requires held { (length held.now ≤ 8) × Rising held.now × Rising given.now
+        × ((j : ℕ) → j < length held.now → slice_index held.now j < t.now.layout.workers) }
+    requires answering { (others : List Share)
+        × Answering held.now given.now at pieces.now others s.old.token.me.0 0 s.old.token.me.0 }
+    ensures seat { IsSameSeat s.old s.new }
+    ensures answering { (others : List Share)
+        → Answering held.now given.now at pieces.now others s.old.token.me.0 0 s.old.token.me.0
+        → Answering held.now given.now at pieces.now others
+        s.old.token.me.0 (length held.now) s.new.token.me.0 }
     ensures answers { result.items ≡ deal held.now given.now at pieces.now }
 {
     let mut answers = ArrayVec::new();
@@ -76,13 +87,18 @@ fn answer_one(
 ) -> Answer
     requires seat { s.old.token.table_id ≡ t.now.table.shared.table_id }
     requires live { IsLiveOf t.now.layout s.old.worker s.old.token.me.0 }
-    requires held { (i < length held.now) × Rising held.now × Rising given.now × ((j : ℕ) → j < length held.now → slice_index held.now j < t.now.layout.workers) }
-    requires answering { (v0 : View) × (others : List Share) × Answering held.now given.now at pieces.now others v0 i s.old.token.me.0 }
-    ensures seat { (s.new.token.table_id ≡ s.old.token.table_id) × (s.new.token.me.1 ≡ s.old.token.me.1) × (s.new.worker ≡ s.old.worker) }
-    ensures answering { (v0 : View) (others : List Share) → Answering held.now given.now at pieces.now others v0 i s.old.token.me.0
+    requires held { (i < length held.now) × Rising held.now × Rising given.now
+        × ((j : ℕ) → j < length held.now → slice_index held.now j < t.now.layout.workers) }
+    requires answering { (v0 : View) × (others : List Share)
+        × Answering held.now given.now at pieces.now others v0 i s.old.token.me.0 }
+    ensures seat { IsSameSeat s.old s.new }
+    ensures answering { (v0 : View) (others : List Share)
+        → Answering held.now given.now at pieces.now others v0 i s.old.token.me.0
         → Answering held.now given.now at pieces.now others v0 (i + 1) s.new.token.me.0 }
-    ensures answer { deal (drop i held.now) (drop i given.now) at (drop (i - length given.now) pieces.now)
-        ≡ result ∷ deal (drop (i + 1) held.now) (drop (i + 1) given.now) at (drop (i + 1 - length given.now) pieces.now) }
+    ensures answer { deal (drop i held.now) (drop i given.now) at
+        (drop (i - length given.now) pieces.now)
+        ≡ result ∷ deal (drop (i + 1) held.now) (drop (i + 1) given.now) at
+        (drop (i + 1 - length given.now) pieces.now) }
 {
     if i < given.len() {
         answer_task(t, s, held[i], given[i]);

@@ -1,7 +1,7 @@
 //! Holding the requests that are posted at a victim.
 ghost use Rattle.std.specs.Prelude.{◌≡◌, ℕ, ◌<◌, ◌≤◌, List, [], ◌++◌, true, length};
 ghost use Rattle.kt_rule.specs.declared.views.Found.{Found};
-ghost use Rattle.kt_request.specs.Reports.{InOrder, posted_at};
+ghost use Rattle.kt_request.specs.Reports.{InOrder, IsSameSeat, posted_at};
 ghost use Rattle.kt_request.specs.Serving.{HeldInto};
 ghost use Rattle.kt_steps.specs.Told.{IsLiveOf};
 
@@ -15,10 +15,17 @@ pub(crate) fn hold_all(t: &RunTable, s: &mut Seat, victim: u32) -> ArrayVec<u32,
     requires seat { s.old.token.table_id ≡ t.now.table.shared.table_id }
     requires live { IsLiveOf t.now.layout s.old.worker s.old.token.me.0 }
     requires inside { t.now.layout.workers ≤ 8 }
-    requires leads { (s.old.token.me.0.desk.leads ≡ true) × (s.old.token.me.0.desk.victim ≡ victim) × (s.old.token.me.0.desk.held ≡ []) }
-    ensures seat { (s.new.token.table_id ≡ s.old.token.table_id) × (s.new.token.me.1 ≡ s.old.token.me.1) × (s.new.worker ≡ s.old.worker) }
-    ensures held { (fs : List Found) × InOrder 0 fs × (length fs ≡ t.now.layout.workers) × (result.items ≡ posted_at victim fs)
-        × (s.new.token.me.0 ≡ record s.old.token.me.0 { desk = record s.old.token.me.0.desk { held = result.items; found = s.old.token.me.0.desk.found ++ fs } }) }
+    requires leads { (s.old.token.me.0.desk.leads ≡ true) × (s.old.token.me.0.desk.victim ≡ victim)
+        × (s.old.token.me.0.desk.held ≡ []) }
+    ensures seat { IsSameSeat s.old s.new }
+    ensures held { (fs : List Found) × InOrder 0 fs × (length fs ≡ t.now.layout.workers)
+        × (result.items ≡ posted_at victim fs)
+        × (s.new.token.me.0 ≡ record s.old.token.me.0 {
+          desk = record s.old.token.me.0.desk {
+            held = result.items;
+            found = s.old.token.me.0.desk.found ++ fs;
+          };
+        }) }
 {
     let mut held = ArrayVec::new();
     for thief in 0..t.layout.workers {
@@ -32,10 +39,12 @@ fn hold_into(t: &RunTable, s: &mut Seat, thief: u32, victim: u32, held: &mut Arr
     requires seat { s.old.token.table_id ≡ t.now.table.shared.table_id }
     requires live { IsLiveOf t.now.layout s.old.worker s.old.token.me.0 }
     requires inside { (thief < t.now.layout.workers) × (t.now.layout.workers ≤ 8) }
-    requires leads { (s.old.token.me.0.desk.leads ≡ true) × (s.old.token.me.0.desk.victim ≡ victim) }
+    requires leads { (s.old.token.me.0.desk.leads ≡ true)
+        × (s.old.token.me.0.desk.victim ≡ victim) }
     requires room { length held.old.items ≤ thief }
-    ensures seat { (s.new.token.table_id ≡ s.old.token.table_id) × (s.new.token.me.1 ≡ s.old.token.me.1) × (s.new.worker ≡ s.old.worker) }
-    ensures held { (n : ℕ) × HeldInto victim thief n s.old.token.me.0 s.new.token.me.0 held.old.items held.new.items }
+    ensures seat { IsSameSeat s.old s.new }
+    ensures held { (n : ℕ)
+        × HeldInto victim thief n s.old.token.me.0 s.new.token.me.0 held.old.items held.new.items }
 {
     if !hold(t, s, victim, thief) {
         return;

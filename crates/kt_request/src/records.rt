@@ -7,6 +7,7 @@ ghost use Rattle.kt_rule.specs.Records.{fork_in};
 ghost use Rattle.kt_rule.specs.Steps.{with_note};
 ghost use Rattle.kt_rule.specs.declared.views.Note.{Note};
 ghost use Rattle.kt_request.specs.Notes.{HasScan, IsTold, entry, last_word, stand_said, taken_by};
+ghost use Rattle.kt_request.specs.Reports.{IsSameSeat};
 ghost use Rattle.kt_request.specs.Serving.{IsLast, NoteOf, Saw};
 ghost use Rattle.kt_steps.specs.Told.{IsLiveOf};
 ghost use Rattle.kt_tasks.specs.Accesses.{IsLookedAt};
@@ -55,11 +56,15 @@ pub(crate) fn see_record(
     requires standing { IsStateWord state × (state.stand ≢ S.Empty) }
     requires last { IsStateWord last }
     requires looked { (ns : List Note) × IsLookedAt s.old.token.me.0 at (packed_state state) ns }
-    requires room { (length scan.old.notes < scan.old.entries) × (t.now.layout.objects ≤ scan.old.objects) }
-    ensures seat { (s.new.token.table_id ≡ s.old.token.table_id) × (s.new.token.me.1 ≡ s.old.token.me.1) × (s.new.worker ≡ s.old.worker) }
+    requires room { (length scan.old.notes < scan.old.entries)
+        × (t.now.layout.objects ≤ scan.old.objects) }
+    ensures seat { IsSameSeat s.old s.new }
     ensures room { HasRoomOf scan.old scan.new }
-    ensures saw { (ns : List Note) → IsLookedAt s.old.token.me.0 at (packed_state state) ns → HasScan ns scan.old
-        → packed_state last ≡ last_word ns → Saw s.old.token.me.0 s.new.token.me.0 ns scan.old scan.new at (packed_state state) result }
+    ensures saw { (ns : List Note) → IsLookedAt s.old.token.me.0 at (packed_state state) ns
+        → HasScan ns scan.old
+        → packed_state last ≡ last_word ns
+        → Saw s.old.token.me.0 s.new.token.me.0 ns scan.old scan.new at (packed_state state)
+        result }
 {
     if !is_taken(last, state) {
         scan.cut(at, state.stand);
@@ -76,13 +81,17 @@ fn see_taken(t: &RunTable, s: &mut Seat, scan: &mut Scan, at: u32, state: StateW
     requires inside { at < RECORDS * t.now.layout.workers }
     requires standing { IsStateWord state × (state.stand ≢ S.Empty) }
     requires looked { (ns : List Note) × IsLookedAt s.old.token.me.0 at (packed_state state) ns }
-    requires room { (length scan.old.notes < scan.old.entries) × (t.now.layout.objects ≤ scan.old.objects) }
-    ensures seat { (s.new.token.table_id ≡ s.old.token.table_id) × (s.new.token.me.1 ≡ s.old.token.me.1) × (s.new.worker ≡ s.old.worker) }
+    requires room { (length scan.old.notes < scan.old.entries)
+        × (t.now.layout.objects ≤ scan.old.objects) }
+    ensures seat { IsSameSeat s.old s.new }
     ensures room { HasRoomOf scan.old scan.new }
     ensures noted { (ns : List Note) → IsLookedAt s.old.token.me.0 at (packed_state state) ns
-        → (n : Note) × NoteOf n at (packed_state state) × IsTold n × (s.new.token.me.0 ≡ with_note s.old.token.me.0 n ns)
-        × (scan.new.notes ≡ scan.old.notes ++ (record { at = at; stand = stand_said (packed_state state); verdict = result }) ∷ [])
-        × ((frame : List Entry) → HasFrame scan.old frame → IsVerdict frame (entry n) result × HasFrame scan.new (frame ++ entry n ∷ [])) }
+        → (n : Note) × NoteOf n at (packed_state state) × IsTold n
+        × (s.new.token.me.0 ≡ with_note s.old.token.me.0 n ns)
+        × (scan.new.notes ≡ scan.old.notes
+        ++ (record { at = at; stand = stand_said (packed_state state); verdict = result }) ∷ [])
+        × ((frame : List Entry) → HasFrame scan.old frame → IsVerdict frame (entry n) result
+        × HasFrame scan.new (frame ++ entry n ∷ [])) }
 {
     if matches!(state.stand, Stand::Finished) {
         return scan.see(at, state.stand, &[]);

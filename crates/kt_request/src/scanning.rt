@@ -6,6 +6,7 @@ ghost use Rattle.kt_ready.specs.declared.verdicts.Seen.{Seen};
 ghost use Rattle.kt_rule.specs.declared.views.Note.{Note};
 ghost use Rattle.kt_rule.specs.declared.views.View.{View};
 ghost use Rattle.kt_request.specs.Notes.{last_word, ready_records, taken_by};
+ghost use Rattle.kt_request.specs.Reports.{IsSameSeat};
 ghost use Rattle.kt_request.specs.Serving.{Claimed, Claims, Dealt, Ended, IsLast, Promised, Scanned, Turned};
 ghost use Rattle.kt_steps.specs.Told.{IsLiveOf};
 ghost use Rattle.kt_words.specs.Words.{IsStateWord, packed_state};
@@ -31,15 +32,18 @@ const EMPTY: StateWord = StateWord {
 fn claim(t: &RunTable, s: &mut Seat, scan: &mut Scan, thief: u32, at: u32, state: StateWord) -> bool
     requires seat { s.old.token.table_id ≡ t.now.table.shared.table_id }
     requires live { IsLiveOf t.now.layout s.old.worker s.old.token.me.0 }
-    requires inside { (at < RECORDS * t.now.layout.workers) × (thief < t.now.layout.workers) × (thief < 8) }
+    requires inside { (at < RECORDS * t.now.layout.workers) × (thief < t.now.layout.workers)
+        × (thief < 8) }
     requires state { IsStateWord state }
-    requires claims { (first : ℕ) × (ns : List Note) × (n : Note) × (earlier : List Seen) × (last : Seen)
+    requires claims { (first : ℕ) × (ns : List Note) × (n : Note)
+        × (earlier : List Seen) × (last : Seen)
         × Claims s.old.token.me.0 scan.old first ns n earlier last at (packed_state state) }
-    ensures seat { (s.new.token.table_id ≡ s.old.token.table_id) × (s.new.token.me.1 ≡ s.old.token.me.1) × (s.new.worker ≡ s.old.worker) }
+    ensures seat { IsSameSeat s.old s.new }
     ensures room { HasRoomOf scan.old scan.new }
     ensures claimed { (first : ℕ) (ns : List Note) (n : Note) (earlier : List Seen) (last : Seen)
         → Claims s.old.token.me.0 scan.old first ns n earlier last at (packed_state state)
-        → Claimed s.old.token.me.0 s.new.token.me.0 scan.old scan.new ns earlier at (packed_state state) thief result }
+        → Claimed s.old.token.me.0 s.new.token.me.0 scan.old scan.new ns earlier
+        at (packed_state state) thief result }
 {
     kt_ready::laws::ready_clashes_with_none();
     kt_law::laws::clash_is_symmetric();
@@ -66,17 +70,20 @@ fn offer(
     requires seat { s.old.token.table_id ≡ t.now.table.shared.table_id }
     requires live { IsLiveOf t.now.layout s.old.worker s.old.token.me.0 }
     requires inside { (at < RECORDS * t.now.layout.workers) × (t.now.layout.workers ≤ 8) }
-    requires held { (length held.now ≤ 8) × ((i : ℕ) → i < length held.now → slice_index held.now i < t.now.layout.workers) }
+    requires held { (length held.now ≤ 8)
+        × ((i : ℕ) → i < length held.now → slice_index held.now i < t.now.layout.workers) }
     requires state { IsStateWord state }
-    requires claims { (first : ℕ) × (ns : List Note) × (n : Note) × (earlier : List Seen) × (last : Seen)
+    requires claims { (first : ℕ) × (ns : List Note) × (n : Note)
+        × (earlier : List Seen) × (last : Seen)
         × Claims s.old.token.me.0 scan.old first ns n earlier last at (packed_state state) }
-    ensures seat { (s.new.token.table_id ≡ s.old.token.table_id) × (s.new.token.me.1 ≡ s.old.token.me.1) × (s.new.worker ≡ s.old.worker) }
+    ensures seat { IsSameSeat s.old s.new }
     ensures room { HasRoomOf scan.old scan.new }
     ensures dealt { (first : ℕ) (ns : List Note) (n : Note) (earlier : List Seen) (last : Seen)
         → Claims s.old.token.me.0 scan.old first ns n earlier last at (packed_state state)
         → given.old.items ≡ take (length held.now) (ready_records earlier)
         → Promised held.now given.old.items s.old.token.me.0.tasks.promised
-        → Dealt s.old.token.me.0 s.new.token.me.0 scan.new ns held.now given.new.items at (packed_state state) }
+        → Dealt s.old.token.me.0 s.new.token.me.0 scan.new ns held.now given.new.items
+        at (packed_state state) }
 {
     if given.len() >= held.len() {
         return;
@@ -100,16 +107,20 @@ fn turn(
     requires seat { s.old.token.table_id ≡ t.now.table.shared.table_id }
     requires live { IsLiveOf t.now.layout s.old.worker s.old.token.me.0 }
     requires inside { (at < RECORDS * t.now.layout.workers) × (t.now.layout.workers ≤ 8) }
-    requires held { (length held.now ≤ 8) × ((i : ℕ) → i < length held.now → slice_index held.now i < t.now.layout.workers) }
+    requires held { (length held.now ≤ 8)
+        × ((i : ℕ) → i < length held.now → slice_index held.now i < t.now.layout.workers) }
     requires room { (RECORDS ≤ scan.old.entries) × (t.now.layout.objects ≤ scan.old.objects) }
     requires scanned { (first : ℕ) × (v0 : View) × (ns : List Note)
         × Scanned first held.now v0 ns s.old.token.me.0 scan.old given.old.items
-        × (at ≡ first + length ns) × IsLast last ns × (first % RECORDS ≡ 0) × (length ns < RECORDS) }
-    ensures seat { (s.new.token.table_id ≡ s.old.token.table_id) × (s.new.token.me.1 ≡ s.old.token.me.1) × (s.new.worker ≡ s.old.worker) }
+        × (at ≡ first + length ns) × IsLast last ns × (first % RECORDS ≡ 0)
+        × (length ns < RECORDS) }
+    ensures seat { IsSameSeat s.old s.new }
     ensures room { HasRoomOf scan.old scan.new }
-    ensures turned { (first : ℕ) (v0 : View) (ns : List Note) → Scanned first held.now v0 ns s.old.token.me.0 scan.old given.old.items
+    ensures turned { (first : ℕ) (v0 : View) (ns : List Note)
+        → Scanned first held.now v0 ns s.old.token.me.0 scan.old given.old.items
         → at ≡ first + length ns → IsLast last ns → first % RECORDS ≡ 0 → length ns < RECORDS
-        → Turned first held.now v0 ns s.new.token.me.0 scan.old scan.new given.old.items given.new.items at result }
+        → Turned first held.now v0 ns s.new.token.me.0 scan.old scan.new given.old.items
+        given.new.items at result }
 {
     let state = stand(t, s, at);
     if matches!(state.stand, Stand::Empty) {
@@ -126,7 +137,8 @@ fn turn(
 fn last_of(last: StateWord, state: StateWord) -> StateWord
     requires fits { IsStateWord last × IsStateWord state }
     ensures fits { IsStateWord result }
-    ensures word { packed_state result ≡ cond (taken_by (packed_state last) (packed_state state)) (packed_state state) 0 }
+    ensures word { packed_state result
+        ≡ cond (taken_by (packed_state last) (packed_state state)) (packed_state state) 0 }
 {
     if is_taken(last, state) { state } else { EMPTY }
 }
@@ -141,13 +153,16 @@ pub(crate) fn scan_all(
 ) -> ArrayVec<u32, THIEVES>
     requires seat { s.old.token.table_id ≡ t.now.table.shared.table_id }
     requires live { IsLiveOf t.now.layout s.old.worker s.old.token.me.0 }
-    requires inside { (first + RECORDS ≤ RECORDS * t.now.layout.workers) × (first % RECORDS ≡ 0) × (t.now.layout.workers ≤ 8) }
-    requires held { (length held.now ≤ 8) × ((i : ℕ) → i < length held.now → slice_index held.now i < t.now.layout.workers) }
+    requires inside { (first + RECORDS ≤ RECORDS * t.now.layout.workers) × (first % RECORDS ≡ 0)
+        × (t.now.layout.workers ≤ 8) }
+    requires held { (length held.now ≤ 8)
+        × ((i : ℕ) → i < length held.now → slice_index held.now i < t.now.layout.workers) }
     requires room { (RECORDS ≤ scan.old.entries) × (t.now.layout.objects ≤ scan.old.objects) }
     requires none_promised { s.old.token.me.0.tasks.promised ≡ [] }
-    ensures seat { (s.new.token.table_id ≡ s.old.token.table_id) × (s.new.token.me.1 ≡ s.old.token.me.1) × (s.new.worker ≡ s.old.worker) }
+    ensures seat { IsSameSeat s.old s.new }
     ensures room { HasRoomOf scan.old scan.new }
-    ensures ended { (ns : List Note) × Ended first held.now s.old.token.me.0 ns s.new.token.me.0 scan.new result.items }
+    ensures ended { (ns : List Note)
+        × Ended first held.now s.old.token.me.0 ns s.new.token.me.0 scan.new result.items }
 {
     scan.restart();
     let mut given = ArrayVec::new();

@@ -1,5 +1,6 @@
 //! The split for thieves that got no task.
 ghost use Rattle.std.specs.Prelude.{◌≡◌, ◌<◌, ◌≤◌};
+ghost use Rattle.kt_request.specs.Reports.{IsSameSeat};
 ghost use Rattle.kt_request.specs.Serving.{HasSplitFor};
 ghost use Rattle.kt_steps.specs.Told.{IsLiveOf};
 
@@ -12,7 +13,7 @@ pub(crate) fn split_for(t: &RunTable, s: &mut Seat, victim: u32, left: usize) ->
     requires live { IsLiveOf t.now.layout s.old.worker s.old.token.me.0 }
     requires inside { victim < t.now.layout.workers }
     requires few { left ≤ 8 }
-    ensures seat { (s.new.token.table_id ≡ s.old.token.table_id) × (s.new.token.me.1 ≡ s.old.token.me.1) × (s.new.worker ≡ s.old.worker) }
+    ensures seat { IsSameSeat s.old s.new }
     ensures split { HasSplitFor victim s.old.token.me.0 left s.new.token.me.0 result }
 {
     if left == 0 {
