@@ -12,7 +12,7 @@ use Rattle.kt_rule.specs.Rule.{Slots, Holds}
 use Rattle.kt_rule.specs.Steps.{Tells, state_place, state_word, over, ends}
 use Rattle.kt_steps.proofs.Steps.{inside, holds_at}
 use Rattle.kt_steps.proofs.Telling.{finishes_at}
-use Rattle.kt_loops.specs.Operations.{IsEmptied, IsPlainEnd, MayFinish, finishes, FinishesAt}
+use Rattle.kt_loops.specs.Operations.{IsLoopEmptied, IsPlainEnd, MayFinish, finishes, FinishesAt}
 use Rattle.kt_loops.proofs.LoopEnds as loops
 
 -- the running body, whose task lies in this record
@@ -48,7 +48,7 @@ module _ (opening : List ℕ) (slots id : ℕ) (me : Me Slots View) (live : 0 < 
       → me.0.tasks.running ≡ y ∷ ys → finishes me.0 e rest ≡ finishes me.0 y ys
   same_finish e rest runs y ys too = λ i. finishes me.0 (same_head (sym runs ∙ too) i) (same_rest (sym runs ∙ too) i)
 
-  loop_told : (at : ℕ) (empty : IsEmptied me.0 at) (i new : ℕ) → i ≡ state_place (layout_of empty.setup) empty.head.spot.berth.at
+  loop_told : (at : ℕ) (empty : IsLoopEmptied me.0 at) (i new : ℕ) → i ≡ state_place (layout_of empty.setup) empty.head.spot.berth.at
       → new ≡ state_word empty.head.spot.berth S.Finished → Finishing i new
   loop_told a empty i new i_is new_is s h out at word =
       let x = inside opening s empty.setup id me.0 h at live empty.told in let w : View = finishes me.0 empty.head empty.rest in (

@@ -68,7 +68,7 @@ DoesOne st v n w = DidOne v n w
 -- THE END OF A TASK
 
 -- the running body is a loop in this record that has begun, and no index of it is left
-pub record IsEmptied (v : View) (at : ℕ) : Type 0 where
+pub record IsLoopEmptied (v : View) (at : ℕ) : Type 0 where
   pub setup : Setup
   pub told : v.setup ≡ Some setup
   pub head : Execution
@@ -85,7 +85,7 @@ pub record IsPlainEnd (v : View) (at : ℕ) : Type 0 where
   pub plain : ended.head.looping ≡ false
 
 abbrev pub MayFinish : View → ℕ → Type 0
-MayFinish v at = IsPlainEnd v at ⊎ IsEmptied v at
+MayFinish v at = IsPlainEnd v at ⊎ IsLoopEmptied v at
 
 -- the end of a loop was done as its indexes began
 abbrev pub finished : Execution → Execution
