@@ -51,7 +51,7 @@ fn run_all<R: Run>(seat: Halfway<R>, chunk: Chunk, count: u32) -> Halfway<R>
     now
 }
 
-/// Runs the indexes at these positions, which are in hand, and retires them.
+/// Runs the indexes at these positions of the loop in the record `at`, which are in hand, and retires them.
 pub fn run_taken<R: Run>(
     seat: Halfway<R>,
     program: &Program,

@@ -11,4 +11,5 @@ mod hands;
 mod indexes;
 mod intervals;
 
+pub use chunks::{Halfway, run_taken};
 pub use intervals::{GRAIN, Ran, run_interval};

@@ -16,7 +16,7 @@ use Rattle.kt_rule.specs.Steps.{knows_stop}
 use Rattle.kt_pieces.specs.Changes.{without_piece}
 use Rattle.kt_loops.specs.Calls.{HasBegun, HasHeld, HasLeft, MayHold, begun_loop}
 use Rattle.kt_loops.specs.Hands.{began, draws_positions, finds_empty, finds_none_left, holds_piece, homes_at}
-use Rattle.kt_loops.specs.Operations.{IsEmptied}
+use Rattle.kt_loops.specs.Operations.{IsLoopEmptied}
 use Rattle.kt_loops.specs.declared.loops.Begun.TheVariants as B
 use Rattle.kt_calls.specs.Ranges.{IsOfCrew, IsRecord}
 use Rattle.kt_intervals.specs.Drains.{Drains}
@@ -25,11 +25,11 @@ use Rattle.kt_intervals.proofs.AllMet.{drained_first}
 use Rattle.kt_worker.specs.Asking.{Learnt}
 use Rattle.kt_worker.specs.Faults.{IsLeast}
 use Rattle.kt_worker.specs.Levels.{Calm, Ends, Extends, IsQuiet, Stacked, Turns, bench, kin}
-use Rattle.kt_worker.specs.Looping.{HasInterval, MayLoop, RanOwn}
+use Rattle.kt_worker.specs.Looping.{HasInterval, MayLoop, Opens, RanOwn}
 use Rattle.kt_worker.specs.Turns.{HasPiece}
 use Rattle.kt_worker.specs.declared.stacks.Level.{Level}
 use Rattle.kt_worker.specs.declared.tallies.Tally.{Tally}
-use Rattle.kt_worker.proofs.Begun.{least_same, quiet_of, stacked_keeps}
+use Rattle.kt_worker.proofs.Begun.{extends_both, least_same, quiet_of, stacked_keeps}
 use Rattle.kt_worker.proofs.Stands.{record_same}
 use Rattle.kt_worker.proofs.Turning.{calm_same, extends_learnt, on_top, top_loop, top_looping}
 
@@ -163,6 +163,21 @@ module _ (v : View) (p : Program) (t : Tally) (levels : List Level) (l : Level) 
         record { seat = refl; spots = λ a m o. o; known = λ q i. i },
       )
 
+-- after a step of its own, and then the loop
+pub opens_after : (v x w : View) (p : Program) (t : Tally) (levels : List Level) (at : ℕ) (b : Bool) → Extends v x → Opens x w p t levels at b → Opens v w p t levels at b
+opens_after v x w p t levels at true k (h, l) = (h, extends_both v x w k l)
+opens_after v x w p t levels at false k (h, l) = (h, extends_both v x w k l)
+
+pub opened_interval : (v w : View) (p : Program) (t : Tally) (levels : List Level) (at : ℕ) (b : Bool) → b ≡ true → Opens v w p t levels at b
+    → HasInterval w p t levels at × Extends v w
+opened_interval v w p t levels at true e h = h
+opened_interval v w p t levels at false e h = cc
+
+pub not_opened : (v w : View) (p : Program) (t : Tally) (levels : List Level) (at : ℕ) (b : Bool) → b ≡ false → Opens v w p t levels at b
+    → Ends w t.fault × Extends v w
+not_opened v w p t levels at true e h = cc
+not_opened v w p t levels at false e h = h
+
 -- A PIECE IS GIVEN
 
 same_number : (n : ℕ) → nat_eq n n ≡ true
@@ -247,7 +262,7 @@ module _ (w : View) (p : Program) (t : Tally) (levels : List Level) (at : ℕ) (
 -- HOW MANY INDEXES ARE LEFT
 
 module _ (v w : View) (p : Program) (t : Tally) (l : Level) (levels : List Level) (c : Calm v p t (l ∷ levels)) (count : ℕ) (left : HasLeft v w count) where
-  pub none_left : l.looping ≡ true → count ≡ 0 → Calm w p t (l ∷ levels) × Extends v w × IsEmptied w l.at
+  pub none_left : l.looping ≡ true → count ≡ 0 → Calm w p t (l ∷ levels) × Extends v w × IsLoopEmptied w l.at
   none_left looping zero_is =
       let top = on_top v p t l levels c in
       let found = left top.e top.rest top.is in

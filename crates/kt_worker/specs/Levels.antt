@@ -25,7 +25,7 @@ use Rattle.kt_rule.specs.declared.views.View.{View}
 use Rattle.kt_rule.specs.Lists.{In}
 use Rattle.kt_rule.specs.Views.{blank_view, no_draws}
 use Rattle.kt_tasks.specs.Claims.{AreFew}
-use Rattle.kt_loops.specs.Operations.{IsEmptied}
+use Rattle.kt_loops.specs.Operations.{IsLoopEmptied}
 use Rattle.kt_calls.specs.Ranges.{IsRecord}
 use Rattle.kt_intervals.specs.Indexes.{fault_with}
 use Rattle.kt_worker.specs.Faults.{IsLeast, task_of}
@@ -190,4 +190,4 @@ Rises true (l ∷ levels) = l.next < l.count
 -- all entries of the topmost frame are known finished, or it is a loop's, of which no index is left
 pub record IsThrough (v : View) (l : Level) : Type 0 where
   pub last : l.looping ≡ false → l.count ≤ l.next
-  pub emptied : l.looping ≡ true → IsEmptied v l.at
+  pub emptied : l.looping ≡ true → IsLoopEmptied v l.at

@@ -16,6 +16,7 @@
 mod asking;
 mod beginning;
 mod body;
+mod costs;
 mod finishing;
 mod gates;
 mod hands;
@@ -30,6 +31,7 @@ mod working;
 pub use beginning::run_begun;
 pub use finishing::finish;
 pub use gates::{Gate, NoGate};
+pub use looping::open_loop;
 pub use scratch::{Scratch, Tools};
 pub use stacks::Level;
 pub use workers::Worker;

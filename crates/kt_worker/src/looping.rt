@@ -6,7 +6,7 @@ ghost use Rattle.kt_prog.specs.Accepted.{IsAccepted};
 ghost use Rattle.kt_prog.specs.Operations.{is_loop_at};
 ghost use Rattle.kt_tasks.specs.Hands.{IsCallIn};
 ghost use Rattle.kt_worker.specs.Levels.{HasBegun, Turns};
-ghost use Rattle.kt_worker.specs.Looping.{MayLoop, RanOwn};
+ghost use Rattle.kt_worker.specs.Looping.{MayLoop, Opens, RanOwn};
 ghost use Rattle.kt_worker.specs.Programs.{HasRoom};
 
 use crate::beginning::is_halted;
@@ -53,35 +53,30 @@ pub fn run_own<'a, R: Run, W: Wait>(rt: &W, worker: Worker<'a, R>, at: u32) -> (
     (worker, empty)
 }
 
-/// Begins the loop of the running body, whose zeroing is done: the worker runs its indexes, and waits for those that others took.
-/// False where the run stops.
-fn begin<'a, R: Run, W: Wait>(
-    rt: &W,
+/// Begins the loop of the running body, whose zeroing is done. False where the run stops.
+fn begin<'a, R: Run>(
     mut worker: Worker<'a, R>,
     tools: &mut Tools,
     level: Level,
 ) -> (Worker<'a, R>, bool)
     requires may { MayLoop (R.view worker.run) worker.program.now worker.tally tools.old.stack.levels level }
-    requires accepted { IsAccepted worker.program.now }
-    requires firsts { HasFirsts worker.program.now.families worker.firsts.now }
     requires room { HasRoom worker.program.now tools.old }
-    ensures turns { Turns (R.view worker.entry.run) (R.view result.0.run) worker.entry.program.now result.0.tally tools.new.stack.levels result.1 }
+    ensures opened { Opens (R.view worker.entry.run) (R.view result.0.run) worker.entry.program.now result.0.tally tools.new.stack.levels level.at result.1 }
     ensures room { HasRoom worker.entry.program.now tools.new }
     ensures program { (result.0.program.now ≡ worker.entry.program.now) × (result.0.firsts.now ≡ worker.entry.firsts.now) }
 {
-    let at = level.at;
-    match worker.run.begin_loop(at) {
+    match worker.run.begin_loop(level.at) {
         Begun::Limit(_) => (worker, false),
         Begun::Begun(_) => {
             tools.stack.push(level);
-            run_own(rt, worker, at)
+            (worker, true)
         }
     }
 }
 
-/// Runs the loop that was begun last: zeroes what its indexes write, and begins it. False where the run stops.
-pub fn run_loop<'a, R: Run, W: Wait>(
-    rt: &W,
+/// Opens the loop that was begun last: zeroes what its indexes write, and begins it, so that all its positions are the own interval.
+/// False where the run stops.
+pub fn open_loop<'a, R: Run>(
     worker: Worker<'a, R>,
     tools: &mut Tools,
     call: &Call,
@@ -94,7 +89,7 @@ pub fn run_loop<'a, R: Run, W: Wait>(
     requires loops { is_loop_at worker.program.now call.now.task ≡ true }
     requires firsts { HasFirsts worker.program.now.families worker.firsts.now }
     requires room { HasRoom worker.program.now tools.old }
-    ensures turns { Turns (R.view worker.entry.run) (R.view result.0.run) worker.entry.program.now result.0.tally tools.new.stack.levels result.1 }
+    ensures opened { Opens (R.view worker.entry.run) (R.view result.0.run) worker.entry.program.now result.0.tally tools.new.stack.levels at result.1 }
     ensures room { HasRoom worker.entry.program.now tools.new }
     ensures program { (result.0.program.now ≡ worker.entry.program.now) × (result.0.firsts.now ≡ worker.entry.firsts.now) }
 {
@@ -115,7 +110,14 @@ pub fn run_loop<'a, R: Run, W: Wait>(
         first,
         frame: begun,
     };
-    let Gone { run, ended, forks } = zero::<R, Brand>(run, start);
+    let Gone {
+        run,
+        ended,
+        forks,
+        elements: _,
+    } = zero::<R, Brand>(run, start);
+    // The indexes are worth any search.
+    tools.owed = 0;
     if is_halted(ended) {
         let worker = Worker {
             run,
@@ -148,5 +150,31 @@ pub fn run_loop<'a, R: Run, W: Wait>(
         looping: true,
         ended: Ended::Done,
     };
-    begin(rt, worker, tools, level)
+    begin(worker, tools, level)
+}
+
+/// Opens the loop that was begun last, and runs its indexes; the worker waits for those that others took. False where the run stops.
+pub fn run_loop<'a, R: Run, W: Wait>(
+    rt: &W,
+    worker: Worker<'a, R>,
+    tools: &mut Tools,
+    call: &Call,
+    at: u32,
+    own: bool,
+) -> (Worker<'a, R>, bool)
+    requires begun { HasBegun (R.view worker.run) worker.program.now worker.tally tools.old.stack.levels at own }
+    requires accepted { IsAccepted worker.program.now }
+    requires call { IsCallIn (R.view worker.run) at call.now }
+    requires loops { is_loop_at worker.program.now call.now.task ≡ true }
+    requires firsts { HasFirsts worker.program.now.families worker.firsts.now }
+    requires room { HasRoom worker.program.now tools.old }
+    ensures turns { Turns (R.view worker.entry.run) (R.view result.0.run) worker.entry.program.now result.0.tally tools.new.stack.levels result.1 }
+    ensures room { HasRoom worker.entry.program.now tools.new }
+    ensures program { (result.0.program.now ≡ worker.entry.program.now) × (result.0.firsts.now ≡ worker.entry.firsts.now) }
+{
+    let (worker, opened) = open_loop(worker, tools, call, at, own);
+    if opened {
+        return run_own(rt, worker, at);
+    }
+    (worker, false)
 }

@@ -1,38 +1,28 @@
-use Rattle.std.proofs.Common.{sym, ◌∙◌, subst, arith}
-use Rattle.kt_prog.specs.Fits.{Fits}
+use Rattle.std.proofs.Common.{◌≡◌, sym, subst}
 use Rattle.kt_prog.specs.declared.programs.Program.{Program}
-use Rattle.kt_worker.proofs.Begun.{begun_small, begins, fits_zeroed, goes_loop, in_hand_now, stopped_zeroed}
+use Rattle.kt_intervals.specs.Programs.{IsOfRun}
+use Rattle.kt_worker.proofs.Intervals.{interval_crew, interval_none_taken, interval_run, not_opened, opened_interval, ran_own}
 use Rattle.kt_worker.proofs.Turning.{turns_after}
 use Rattle.kt_worker.proofs.looping.run_loop.Goals as goal
 
-pub overflow_add-begun : goal.overflow_add-begun
-overflow_add-begun g c = let small = begun_small _ _ _ _ _ _ c.requires.begun in omega (arith, small)
-
-pub zero-run-requires : goal.zero-run-requires
-zero-run-requires g c =
-    let h = c.requires.begun in
-    let call = c.requires.call.0 h.e.spot (in_hand_now _ _ _ _ _ _ h) in
+pub run_own-requires : goal.run_own-requires
+run_own-requires g c =
+    let o = c.open_loop-worker in
+    let h = (opened_interval _ _ _ _ _ _ _ c.if-opened.true o.ensures.opened).0 in
     record {
-      accepted = c.requires.accepted;
-      fits = subst (λ (p : Program). Fits p c.args.call.now) h.quiet.program (c.requires.call.1 h.quiet.setup h.quiet.told);
-      loops = c.requires.loops;
-      stands = begins _ _ _ _ _ _ h c.args.worker.firsts.now c.args.call.now c.requires.firsts call;
+      crew = interval_crew _ _ _ _ _ h;
+      inside = h.inside;
+      program = subst (λ (p : Program). IsOfRun (g.R.Run.view o.result.0.run) p) (sym o.ensures.program.0) (interval_run _ _ _ _ _ h c.requires.accepted);
+      firsts = rw (o.ensures.program.0, o.ensures.program.1) c.requires.firsts;
+      home = h.home;
+      none_taken = interval_none_taken _ _ _ _ _ h;
     }
 
-pub overflow_add-used : goal.overflow_add-used
-overflow_add-used g c =
-    let few = fits_zeroed _ _ _ _ _ _ c.requires.begun _ _ _ (sym c.is_halted.ensures ∙ c.if-is_halted.false) c.zero-run.ensures in
-    omega (arith, few)
-
-pub begin-requires-clause-may : goal.begin-requires-clause-may
-begin-requires-clause-may g c =
-    (goes_loop _ _ _ _ _ _ c.requires.begun _ _ _ (sym c.is_halted.ensures ∙ c.if-is_halted.false) c.zero-run.ensures).0
+pub returns-then-opened-clause-turns : goal.returns-then-opened-clause-turns
+returns-then-opened-clause-turns g c =
+    let o = c.open_loop-worker in
+    let h = opened_interval _ _ _ _ _ _ _ c.if-opened.true o.ensures.opened in
+    turns_after (g.R.Run.view c.args.worker.run) (g.R.Run.view o.result.0.run) _ _ _ _ _ h.1 (ran_own _ _ _ _ _ h.0 _ _ _ c.run_own.ensures.ran)
 
 pub returns-clause-turns : goal.returns-clause-turns
-returns-clause-turns g c =
-    turns_after (g.R.Run.view c.args.worker.run) (g.R.Run.view c.zero-run.result.run) _ _ _ _ _
-    (goes_loop _ _ _ _ _ _ c.requires.begun _ _ _ (sym c.is_halted.ensures ∙ c.if-is_halted.false) c.zero-run.ensures).1 c.begin.ensures.turns
-
-pub returns-then-is_halted-clause-turns : goal.returns-then-is_halted-clause-turns
-returns-then-is_halted-clause-turns g c =
-    stopped_zeroed _ _ _ _ _ _ c.requires.begun _ c.zero-run.result.forks _ (sym c.is_halted.ensures ∙ c.if-is_halted.true) c.zero-run.ensures
+returns-clause-turns g c = not_opened _ _ _ _ _ _ _ c.if-opened.false c.open_loop-worker.ensures.opened
