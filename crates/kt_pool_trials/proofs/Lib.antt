@@ -1,2 +1,2 @@
 mod Driving
-mod Keeping
+mod Intervals

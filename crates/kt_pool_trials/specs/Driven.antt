@@ -4,6 +4,7 @@ use Rattle.kt_law.specs.declared.limits.TheConstants.{WORKERS}
 use Rattle.kt_prog.specs.Accepted.{IsAccepted}
 use Rattle.kt_prog.specs.declared.programs.Program.{Program}
 use Rattle.kt_words.specs.declared.layouts.TheConstants.{RECORDS}
+use Rattle.kt_words.specs.declared.pairs.Pair.{Pair}
 use Rattle.kt_rule.specs.declared.seats.Seat.{Seat}
 use Rattle.kt_rule.specs.declared.tables.RunTable.{RunTable}
 use Rattle.kt_rule.specs.declared.views.Setup.{Setup}
@@ -15,6 +16,8 @@ use Rattle.kt_posts.specs.declared.answers.Answer.TheVariants as A
 use Rattle.kt_steps.specs.Told.{IsNotedReady}
 use Rattle.kt_worker.specs.Asking.{Asks}
 use Rattle.kt_worker.specs.Levels.{Calm, HasBegun}
+use Rattle.kt_worker.specs.Looping.{HasInterval}
+use Rattle.kt_intervals.specs.Chunks.{IsTaken}
 use Rattle.kt_intervals.specs.Programs.{HasFirsts}
 use Rattle.kt_worker.specs.Programs.{HasRoom}
 use Rattle.kt_worker.specs.Turns.{HasPiece, IsAboutToStart}
@@ -43,6 +46,13 @@ pub record Leads (v : View) (p : Program) (t : Tally) (levels : List Level) : Ty
   pub asked : HasAsked mid p t levels
   pub leads : v ≡ leads_now mid 0
 
+-- these positions were taken from its own interval, of the loop in the record `at`
+pub record HasChunk (w : View) (p : Program) (t : Tally) (levels : List Level) (at : ℕ) (pair : Pair) : Type 0 where
+  pub before : View
+  pub interval : HasInterval before p t levels at
+  pub same : w ≡ record before { loops = record before.loops { taken = w.loops.taken } }
+  pub taken : IsTaken at w pair
+
 abbrev pub Stands : View → Program → Tally → List Level → Stage → Type 0
 Stands v p t levels S.New = IsFresh v p × Calm v p t levels × (levels ≡ [])
 Stands v p t levels S.Resting = Calm v p t levels
@@ -52,6 +62,8 @@ Stands v p t levels (S.Given at) = IsAboutToStart v p t levels at
 Stands v p t levels (S.Piece at pair) = HasPiece v p t levels at pair
 Stands v p t levels (S.Begun at own) = HasBegun v p t levels at own
 Stands v p t levels (S.Noted at x) = Calm v p t levels × IsNotedReady v at x × (at < RECORDS)
+Stands v p t levels (S.Looping at) = HasInterval v p t levels at
+Stands v p t levels (S.Taken at pair) = HasChunk v p t levels at pair
 Stands v p t levels S.Over = Unit {0}
 
 -- where it stands that was answered so

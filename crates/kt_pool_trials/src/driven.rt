@@ -32,6 +32,22 @@ pub struct Common<'a, 't> {
     pub pause: &'a Backoff,
 }
 
+/// A worker that stands there.
+pub fn stands<'a, 't, H: Home>(
+    worker: Worker<'a, Recorder<'t, H>>,
+    tools: Tools,
+    stage: Stage,
+) -> Driven<'a, 't, H>
+    requires { IsDriven worker.run.hand.seat.token.me.0 worker.program.now worker.firsts.now worker.tally tools stage }
+    ensures { IsDriven result.worker.run.hand.seat.token.me.0 result.worker.program.now result.worker.firsts.now result.worker.tally result.tools result.stage }
+{
+    Driven {
+        worker,
+        tools,
+        stage,
+    }
+}
+
 /// The worker of a seat that has made no step.
 pub fn hired<'a, 't, H: Home>(common: Common<'a, 't>, seat: Seat, tools: Tools) -> Driven<'a, 't, H>
     requires seat { IsUnmoved common.table.now common.program.now seat }
@@ -57,11 +73,7 @@ pub fn hired<'a, 't, H: Home>(common: Common<'a, 't>, seat: Seat, tools: Tools) 
         pause: common.pause,
         tally,
     };
-    Driven {
-        worker,
-        tools,
-        stage: Stage::New,
-    }
+    stands(worker, tools, Stage::New)
 }
 
 /// The events of a worker that leaves.
@@ -92,17 +104,9 @@ fn turned<'a, 't, H: Home>(
     ensures { IsDriven result.worker.run.hand.seat.token.me.0 result.worker.program.now result.worker.firsts.now result.worker.tally result.tools result.stage }
 {
     if more {
-        return Driven {
-            worker,
-            tools,
-            stage: Stage::Resting,
-        };
+        return stands(worker, tools, Stage::Resting);
     }
-    Driven {
-        worker,
-        tools,
-        stage: Stage::Over,
-    }
+    stands(worker, tools, Stage::Over)
 }
 
 /// The first turn.
@@ -120,11 +124,7 @@ pub fn begins<'a, 't, H: Home, W: Wait>(rt: &W, driven: Driven<'a, 't, H>) -> Dr
             let (worker, more) = first_turn(rt, worker, &mut tools, &NoGate);
             turned(worker, tools, more)
         }
-        _ => Driven {
-            worker,
-            tools,
-            stage,
-        },
+        _ => stands(worker, tools, stage),
     }
 }
 
@@ -138,11 +138,7 @@ fn posts<'a, 't, H: Home>(
     ensures { IsDriven result.worker.run.hand.seat.token.me.0 result.worker.program.now result.worker.firsts.now result.worker.tally result.tools result.stage }
 {
     worker.run.post(0);
-    Driven {
-        worker,
-        tools,
-        stage: Stage::Asking,
-    }
+    stands(worker, tools, Stage::Asking)
 }
 
 /// Asks at worker 0.
@@ -158,11 +154,7 @@ pub fn asks<'a, 't, H: Home>(driven: Driven<'a, 't, H>) -> Driven<'a, 't, H>
     match stage {
         Stage::New => posts(worker, tools),
         Stage::Resting => posts(worker, tools),
-        _ => Driven {
-            worker,
-            tools,
-            stage,
-        },
+        _ => stands(worker, tools, stage),
     }
 }
 
@@ -178,22 +170,10 @@ pub fn leads<'a, 't, H: Home>(driven: Driven<'a, 't, H>) -> Driven<'a, 't, H>
     } = driven;
     match stage {
         Stage::Asking => match worker.run.lead(0) {
-            Lead::Won => Driven {
-                worker,
-                tools,
-                stage: Stage::Leading,
-            },
-            Lead::Busy(_) => Driven {
-                worker,
-                tools,
-                stage: Stage::Asking,
-            },
+            Lead::Won => stands(worker, tools, Stage::Leading),
+            Lead::Busy(_) => stands(worker, tools, Stage::Asking),
         },
-        _ => Driven {
-            worker,
-            tools,
-            stage,
-        },
+        _ => stands(worker, tools, stage),
     }
 }
 
@@ -210,17 +190,9 @@ pub fn serves<'a, 't, H: Home>(driven: Driven<'a, 't, H>) -> Driven<'a, 't, H>
     match stage {
         Stage::Leading => {
             worker.run.serve(0, &mut tools.scan);
-            Driven {
-                worker,
-                tools,
-                stage: Stage::Asking,
-            }
+            stands(worker, tools, Stage::Asking)
         }
-        _ => Driven {
-            worker,
-            tools,
-            stage,
-        },
+        _ => stands(worker, tools, stage),
     }
 }
 
@@ -238,17 +210,9 @@ pub fn looks<'a, 't, H: Home>(driven: Driven<'a, 't, H>) -> Driven<'a, 't, H>
         Stage::Asking => {
             let answer = worker.run.look();
             let stage = stage_of(answer);
-            Driven {
-                worker,
-                tools,
-                stage,
-            }
+            stands(worker, tools, stage)
         }
-        _ => Driven {
-            worker,
-            tools,
-            stage,
-        },
+        _ => stands(worker, tools, stage),
     }
 }
 
@@ -278,17 +242,9 @@ pub fn starts<'a, 't, H: Home>(driven: Driven<'a, 't, H>) -> Driven<'a, 't, H>
     match stage {
         Stage::Given(at) => {
             worker.run.start(at);
-            Driven {
-                worker,
-                tools,
-                stage: Stage::Begun(at, false),
-            }
+            stands(worker, tools, Stage::Begun(at, false))
         }
-        _ => Driven {
-            worker,
-            tools,
-            stage,
-        },
+        _ => stands(worker, tools, stage),
     }
 }
 
@@ -307,10 +263,6 @@ pub fn runs<'a, 't, H: Home, W: Wait>(rt: &W, driven: Driven<'a, 't, H>) -> Driv
             let (worker, more) = run_begun(rt, worker, &mut tools, &NoGate, at, own);
             turned(worker, tools, more)
         }
-        _ => Driven {
-            worker,
-            tools,
-            stage,
-        },
+        _ => stands(worker, tools, stage),
     }
 }

@@ -3,7 +3,7 @@ ghost use Rattle.std.specs.Prelude.{◌≡◌, ◌<◌, ◌∷◌, true};
 ghost use Rattle.kt_worker.specs.Levels.{Calm};
 ghost use Rattle.kt_pool_trials.specs.Driven.{IsDriven, IsEquipped};
 
-use crate::driven::Driven;
+use crate::driven::{Driven, stands};
 use crate::recorders::Recorder;
 use crate::stages::Stage;
 use kt_calls::{Claim, Run};
@@ -23,18 +23,10 @@ pub fn claims<'a, 't, H: Home>(driven: Driven<'a, 't, H>) -> Driven<'a, 't, H>
     } = driven;
     match stage {
         Stage::Resting => match tools.stack.pop() {
-            None => Driven {
-                worker,
-                tools,
-                stage,
-            },
+            None => stands(worker, tools, stage),
             Some(level) => claims_next(worker, tools, level),
         },
-        _ => Driven {
-            worker,
-            tools,
-            stage,
-        },
+        _ => stands(worker, tools, stage),
     }
 }
 
@@ -49,26 +41,14 @@ fn claims_next<'a, 't, H: Home>(
 {
     if level.next >= level.count {
         tools.stack.push(level);
-        return Driven {
-            worker,
-            tools,
-            stage: Stage::Resting,
-        };
+        return stands(worker, tools, Stage::Resting);
     }
     let at = worker.tally.base + level.first + level.next;
     let claim = worker.run.claim_own(at);
     tools.stack.push(level);
     match claim {
-        Claim::Won => Driven {
-            worker,
-            tools,
-            stage: Stage::Begun(at, true),
-        },
-        Claim::Stolen(_) => Driven {
-            worker,
-            tools,
-            stage: Stage::Resting,
-        },
+        Claim::Won => stands(worker, tools, Stage::Begun(at, true)),
+        Claim::Stolen(_) => stands(worker, tools, Stage::Resting),
     }
 }
 
@@ -84,18 +64,10 @@ pub fn passes<'a, 't, H: Home>(driven: Driven<'a, 't, H>) -> Driven<'a, 't, H>
     } = driven;
     match stage {
         Stage::Resting => match tools.stack.pop() {
-            None => Driven {
-                worker,
-                tools,
-                stage,
-            },
+            None => stands(worker, tools, stage),
             Some(level) => passes_next(worker, tools, level),
         },
-        _ => Driven {
-            worker,
-            tools,
-            stage,
-        },
+        _ => stands(worker, tools, stage),
     }
 }
 
@@ -110,11 +82,7 @@ fn passes_next<'a, 't, H: Home>(
 {
     if level.next >= level.count {
         tools.stack.push(level);
-        return Driven {
-            worker,
-            tools,
-            stage: Stage::Resting,
-        };
+        return stands(worker, tools, Stage::Resting);
     }
     let at = worker.tally.base + level.first + level.next;
     match worker.run.stand(at).stand {
@@ -124,19 +92,11 @@ fn passes_next<'a, 't, H: Home>(
                 stolen: false,
                 ..level
             });
-            Driven {
-                worker,
-                tools,
-                stage: Stage::Resting,
-            }
+            stands(worker, tools, Stage::Resting)
         }
         Stand::Empty | Stand::Unclaimed | Stand::Given(_) | Stand::Running(_) => {
             tools.stack.push(level);
-            Driven {
-                worker,
-                tools,
-                stage: Stage::Resting,
-            }
+            stands(worker, tools, Stage::Resting)
         }
     }
 }
@@ -153,18 +113,10 @@ pub fn finishes<'a, 't, H: Home>(driven: Driven<'a, 't, H>) -> Driven<'a, 't, H>
     } = driven;
     match stage {
         Stage::Resting => match tools.stack.pop() {
-            None => Driven {
-                worker,
-                tools,
-                stage,
-            },
+            None => stands(worker, tools, stage),
             Some(level) => finishes_top(worker, tools, level),
         },
-        _ => Driven {
-            worker,
-            tools,
-            stage,
-        },
+        _ => stands(worker, tools, stage),
     }
 }
 
@@ -182,18 +134,10 @@ fn finishes_top<'a, 't, H: Home>(
     }
     if level.next < level.count {
         tools.stack.push(level);
-        return Driven {
-            worker,
-            tools,
-            stage: Stage::Resting,
-        };
+        return stands(worker, tools, Stage::Resting);
     }
     let worker = finish(worker, &mut tools.stack, level);
-    Driven {
-        worker,
-        tools,
-        stage: Stage::Resting,
-    }
+    stands(worker, tools, Stage::Resting)
 }
 
 // A loop is finished by what is left of it alone.
@@ -209,16 +153,8 @@ fn finishes_loop<'a, 't, H: Home>(
 {
     if worker.run.left(level.at) == 0 {
         let worker = finish(worker, &mut tools.stack, level);
-        return Driven {
-            worker,
-            tools,
-            stage: Stage::Resting,
-        };
+        return stands(worker, tools, Stage::Resting);
     }
     tools.stack.push(level);
-    Driven {
-        worker,
-        tools,
-        stage: Stage::Resting,
-    }
+    stands(worker, tools, Stage::Resting)
 }

@@ -8,17 +8,17 @@ mod driven;
 #[cfg(test)]
 mod entries;
 #[cfg(test)]
-mod jobs;
+mod loop_rows;
 #[cfg(test)]
-mod pools;
+mod looping;
+#[cfg(test)]
+mod loops;
 #[cfg(test)]
 mod recorders;
 #[cfg(test)]
 mod rows;
 #[cfg(test)]
 mod scenes;
-#[cfg(test)]
-mod seats;
 mod stages;
 #[cfg(test)]
 mod watching;

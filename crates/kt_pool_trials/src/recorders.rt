@@ -7,6 +7,7 @@ ghost use Rattle.kt_words.specs.declared.layouts.TheConstants.{RECORDS};
 ghost use Rattle.kt_calls.specs.Ranges.{IsOfCrew, IsRecord, IsWorker};
 ghost use Rattle.kt_calls.specs.Serving.{Serves};
 ghost use Rattle.kt_law.specs.declared.accesses.Access.{Access};
+ghost use Rattle.kt_loops.specs.Calls.{HasSplit};
 ghost use Rattle.kt_rule.specs.Steps.{with_note};
 ghost use Rattle.kt_rule.specs.declared.views.Note.{Note};
 ghost use Rattle.kt_steps.specs.Told.{IsNotedReady};
@@ -17,6 +18,7 @@ use arrayvec::ArrayVec;
 use kt_calls::{Answer, Begun, Claim, Lead, Published, Run, Taken};
 use kt_hands::{Hand, Home};
 use kt_law::Op;
+use kt_loops::Divided;
 use kt_prog::{Call, PATH};
 use kt_ready::Scan;
 use kt_request::Served;
@@ -48,6 +50,8 @@ pub enum Event {
     /// A claim for a thief, outside of a serve.
     Offered(u32, Offer),
     Began(Begun),
+    /// A piece that was split off, of the loop in this record.
+    Cut(u32, Pair),
     /// The piece that became the own interval, of the loop in this record.
     Held(u32, Pair),
     Took(Taken),
@@ -73,11 +77,23 @@ pub fn keep(log: &mut Log, event: Event) {
     }
 }
 
-// Keeps whom a serve held, and its answers.
+/// Keeps the pieces that a split cut off.
+pub fn keep_cut(log: &mut Log, cut: &Divided) {
+    if let Divided::Got(at, pieces) = cut {
+        for piece in pieces.as_slice() {
+            keep(log, Event::Cut(*at, *piece));
+        }
+    }
+}
+
+// Keeps whom a serve held, its answers, and the pieces that it cut off.
 fn keep_served(log: &mut Log, served: &Served) {
     let answers = served.answers.as_slice();
     for (thief, answer) in served.held.as_slice().iter().zip(answers.iter()) {
         keep(log, Event::Gave(*thief, *answer));
+    }
+    if let Some(cut) = &served.cut {
+        keep_cut(log, cut);
     }
 }
 
@@ -106,6 +122,15 @@ pub fn offer<'t, H: Home>(hand: &mut Hand<'t, H>, at: u32, state: StateWord, thi
     ensures claimed { ClaimedFor hand.old.seat.token.me.0 at state thief hand.new.seat.token.me.0 result }
 {
     kt_tasks::claim_for(hand.table, &mut hand.seat, at, state, thief)
+}
+
+/// Splits the interval of a worker for the seat alone.
+pub fn split<'t, H: Home>(hand: &mut Hand<'t, H>, victim: u32) -> Divided
+    requires crew { IsOfCrew hand.old.seat.token.me.0 }
+    requires victim { IsWorker hand.old.seat.token.me.0 victim }
+    ensures split { HasSplit victim hand.old.seat.token.me.0 1 hand.new.seat.token.me.0 result }
+{
+    kt_loops::split(hand.table, &mut hand.seat, victim, 1)
 }
 
 // Serves, and tells whom.

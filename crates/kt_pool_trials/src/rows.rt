@@ -2,7 +2,6 @@
 
 use crate::crowds::play_eight;
 use crate::driven::Common;
-use crate::jobs::opened;
 use crate::recorders::Event;
 use crate::scenes::{play_one, play_two, room_for};
 use crossbeam_utils::Backoff;
@@ -10,6 +9,7 @@ use kt_calls::{Answer, Claim, Lead, Published};
 use kt_law::Stand;
 use kt_pool::Pool;
 use kt_prog::{inputs, laws};
+use kt_seat_trials::opened;
 use kt_tasks::Offer;
 use kt_worker::Scratch;
 use std::test::Fail;

@@ -65,16 +65,21 @@ pub struct Logs {
 }
 
 // A task is given to worker 1, with worker 0 and 2 trying for it, and then the run goes on to its end.
-fn one_of_three<'a, 't, H: Home, W: Wait>(
+fn hired_one<'a, 't, H: Home, W: Wait>(
     rt: &W,
-    zero: Driven<'a, 't, H>,
-    one: Driven<'a, 't, H>,
-    two: Driven<'a, 't, H>,
+    common: Common<'a, 't>,
+    mut seats: Vec<Seat>,
+    mut room: Vec<Tools>,
 ) -> Logs
-    requires zero { IsDriven zero.worker.run.hand.seat.token.me.0 zero.worker.program.now zero.worker.firsts.now zero.worker.tally zero.tools zero.stage }
-    requires one { IsDriven one.worker.run.hand.seat.token.me.0 one.worker.program.now one.worker.firsts.now one.worker.tally one.tools one.stage }
-    requires two { IsDriven two.worker.run.hand.seat.token.me.0 two.worker.program.now two.worker.firsts.now two.worker.tally two.tools two.stage }
+    requires home { H.table ≡ Some common.table.now.table.shared.table_id }
+    requires seats { All (IsUnmoved common.table.now common.program.now) seats.items × (length seats.items ≡ 3) }
+    requires room { All (IsRoomy common.program.now) room.items × (length room.items ≡ 3) }
+    requires accepted { IsAccepted common.program.now }
+    requires firsts { HasFirsts common.program.now.families common.firsts.now }
 {
+    let zero = hires::<H>(common, &mut seats, &mut room);
+    let one = hires::<H>(common, &mut seats, &mut room);
+    let two = hires::<H>(common, &mut seats, &mut room);
     let zero = begins(rt, zero);
     let one = watches(one, 1);
     let two = notes(two, 1);
@@ -95,51 +100,7 @@ fn one_of_three<'a, 't, H: Home, W: Wait>(
     }
 }
 
-// Workers 1 and 2 ask, worker 1 serves both.
-fn two_of_three<'a, 't, H: Home, W: Wait>(
-    rt: &W,
-    zero: Driven<'a, 't, H>,
-    one: Driven<'a, 't, H>,
-    two: Driven<'a, 't, H>,
-) -> Logs
-    requires zero { IsDriven zero.worker.run.hand.seat.token.me.0 zero.worker.program.now zero.worker.firsts.now zero.worker.tally zero.tools zero.stage }
-    requires one { IsDriven one.worker.run.hand.seat.token.me.0 one.worker.program.now one.worker.firsts.now one.worker.tally one.tools one.stage }
-    requires two { IsDriven two.worker.run.hand.seat.token.me.0 two.worker.program.now two.worker.firsts.now two.worker.tally two.tools two.stage }
-{
-    let zero = begins(rt, zero);
-    let one = asks(one);
-    let two = asks(two);
-    let one = leads(one);
-    let two = looks(leads(two));
-    let one = looks(serves(one));
-    let two = looks(two);
-    let zero = watches(zero, 3);
-    Logs {
-        zero: left(zero),
-        one: left(one),
-        two: left(two),
-    }
-}
-
-fn hired_one<'a, 't, H: Home, W: Wait>(
-    rt: &W,
-    common: Common<'a, 't>,
-    mut seats: Vec<Seat>,
-    mut room: Vec<Tools>,
-) -> Logs
-    requires home { H.table ≡ Some common.table.now.table.shared.table_id }
-    requires seats { All (IsUnmoved common.table.now common.program.now) seats.items × (length seats.items ≡ 3) }
-    requires room { All (IsRoomy common.program.now) room.items × (length room.items ≡ 3) }
-    requires accepted { IsAccepted common.program.now }
-    requires firsts { HasFirsts common.program.now.families common.firsts.now }
-{
-    let zero = hires::<H>(common, &mut seats, &mut room);
-    let one = hires::<H>(common, &mut seats, &mut room);
-    let two = hires::<H>(common, &mut seats, &mut room);
-    one_of_three(rt, zero, one, two)
-}
-
-/// `one_of_three` at a table whose seats have made no step.
+/// The same at a table whose seats have made no step.
 pub fn play_one<W: Wait>(rt: &W, common: Common, seats: Vec<Seat>, room: Vec<Tools>) -> Logs
     requires seats { (j : Setup) × AreSeatsOf j common.table.now seats.items × HaveNotStepped j seats.items × (j.workers ≡ 3) × (j.program ≡ common.program.now) }
     requires room { All (IsRoomy common.program.now) room.items × (length room.items ≡ 3) }
@@ -149,6 +110,7 @@ pub fn play_one<W: Wait>(rt: &W, common: Common, seats: Vec<Seat>, room: Vec<Too
     hired_one::<Brand, W>(rt, common, seats, room)
 }
 
+// Workers 1 and 2 ask, worker 1 serves both.
 fn hired_two<'a, 't, H: Home, W: Wait>(
     rt: &W,
     common: Common<'a, 't>,
@@ -164,10 +126,22 @@ fn hired_two<'a, 't, H: Home, W: Wait>(
     let zero = hires::<H>(common, &mut seats, &mut room);
     let one = hires::<H>(common, &mut seats, &mut room);
     let two = hires::<H>(common, &mut seats, &mut room);
-    two_of_three(rt, zero, one, two)
+    let zero = begins(rt, zero);
+    let one = asks(one);
+    let two = asks(two);
+    let one = leads(one);
+    let two = looks(leads(two));
+    let one = looks(serves(one));
+    let two = looks(two);
+    let zero = watches(zero, 3);
+    Logs {
+        zero: left(zero),
+        one: left(one),
+        two: left(two),
+    }
 }
 
-/// `two_of_three` at a table whose seats have made no step.
+/// The same at a table whose seats have made no step.
 pub fn play_two<W: Wait>(rt: &W, common: Common, seats: Vec<Seat>, room: Vec<Tools>) -> Logs
     requires seats { (j : Setup) × AreSeatsOf j common.table.now seats.items × HaveNotStepped j seats.items × (j.workers ≡ 3) × (j.program ≡ common.program.now) }
     requires room { All (IsRoomy common.program.now) room.items × (length room.items ≡ 3) }

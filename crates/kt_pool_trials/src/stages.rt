@@ -21,6 +21,10 @@ pub enum Stage {
     Begun(u32, bool),
     /// It has noted the entry of this record, and by its notes the entry is ready.
     Noted(u32, StateWord),
+    /// Its own interval is of the loop of this record.
+    Looping(u32),
+    /// And it has taken these positions of it.
+    Taken(u32, Pair),
     /// It can be driven no further.
     Over,
 }

@@ -5,7 +5,7 @@ ghost use Rattle.kt_words.specs.declared.layouts.TheConstants.{RECORDS};
 ghost use Rattle.kt_worker.specs.Levels.{Calm};
 ghost use Rattle.kt_pool_trials.specs.Driven.{IsDriven, IsEquipped};
 
-use crate::driven::Driven;
+use crate::driven::{Driven, stands};
 use crate::recorders::{Event, Recorder, keep, note_accesses, offer};
 use crate::stages::Stage;
 use kt_calls::Run;
@@ -26,11 +26,7 @@ fn watches_now<'a, 't, H: Home>(
     ensures { IsDriven result.worker.run.hand.seat.token.me.0 result.worker.program.now result.worker.firsts.now result.worker.tally result.tools result.stage }
 {
     worker.run.stand(at);
-    Driven {
-        worker,
-        tools,
-        stage: Stage::Resting,
-    }
+    stands(worker, tools, Stage::Resting)
 }
 
 /// Looks at a record of worker 0.
@@ -47,11 +43,7 @@ pub fn watches<'a, 't, H: Home>(driven: Driven<'a, 't, H>, at: u32) -> Driven<'a
     match stage {
         Stage::New => watches_now(worker, tools, at),
         Stage::Resting => watches_now(worker, tools, at),
-        _ => Driven {
-            worker,
-            tools,
-            stage,
-        },
+        _ => stands(worker, tools, stage),
     }
 }
 
@@ -79,18 +71,10 @@ fn notes_now<'a, 't, H: Home>(
 {
     let state = worker.run.stand(at);
     if !is_first_unclaimed(state) {
-        return Driven {
-            worker,
-            tools,
-            stage: Stage::Resting,
-        };
+        return stands(worker, tools, Stage::Resting);
     }
     note_accesses(&mut worker.run.hand, at);
-    Driven {
-        worker,
-        tools,
-        stage: Stage::Noted(at, state),
-    }
+    stands(worker, tools, Stage::Noted(at, state))
 }
 
 /// Notes the first entry of a frame of worker 0.
@@ -107,11 +91,7 @@ pub fn notes<'a, 't, H: Home>(driven: Driven<'a, 't, H>, at: u32) -> Driven<'a, 
     match stage {
         Stage::New => notes_now(worker, tools, at),
         Stage::Resting => notes_now(worker, tools, at),
-        _ => Driven {
-            worker,
-            tools,
-            stage,
-        },
+        _ => stands(worker, tools, stage),
     }
 }
 
@@ -131,26 +111,14 @@ pub fn offers<'a, 't, H: Home>(driven: Driven<'a, 't, H>) -> Driven<'a, 't, H>
             match offer(&mut worker.run.hand, at, state, thief) {
                 Offer::Won => {
                     keep(&mut worker.run.log, Event::Offered(at, Offer::Won));
-                    Driven {
-                        worker,
-                        tools,
-                        stage: Stage::Over,
-                    }
+                    stands(worker, tools, Stage::Over)
                 }
                 Offer::Lost(word) => {
                     keep(&mut worker.run.log, Event::Offered(at, Offer::Lost(word)));
-                    Driven {
-                        worker,
-                        tools,
-                        stage: Stage::Resting,
-                    }
+                    stands(worker, tools, Stage::Resting)
                 }
             }
         }
-        _ => Driven {
-            worker,
-            tools,
-            stage,
-        },
+        _ => stands(worker, tools, stage),
     }
 }

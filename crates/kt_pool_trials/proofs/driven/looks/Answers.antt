@@ -6,8 +6,8 @@ use Rattle.kt_pool_trials.specs.declared.stages.Stage.TheVariants as S
 use Rattle.kt_pool_trials.proofs.Driving.{answered, asked_given, at_stage}
 use Rattle.kt_pool_trials.proofs.driven.looks.Goals as goal
 
-pub returns-in-Asking : goal.returns-in-Asking
-returns-in-Asking g c =
+pub stands-requires : goal.stands-requires
+stands-requires g c =
     let d = c.args.driven in
     let v = d.worker.run.hand.seat.token.me.0 in
     let h : HasAsked v d.worker.program.now d.worker.tally d.tools.stack.levels =

@@ -5,8 +5,8 @@ use Rattle.kt_pool_trials.specs.declared.stages.Stage.TheVariants as S
 use Rattle.kt_pool_trials.proofs.Driving.{at_stage}
 use Rattle.kt_pool_trials.proofs.driven.starts.Goals as goal
 
-pub returns-in-Given : goal.returns-in-Given
-returns-in-Given g c =
+pub stands-requires : goal.stands-requires
+stands-requires g c =
     let d = c.args.driven in
     let h : IsAboutToStart d.worker.run.hand.seat.token.me.0 d.worker.program.now d.worker.tally d.tools.stack.levels c.in-Given.at =
     at_stage d.worker.run.hand.seat.token.me.0 d.worker.program.now d.worker.tally d.tools.stack.levels d.stage (S.Given c.in-Given.at) c.in-Given.is c.requires.stands in

@@ -28,8 +28,8 @@ claim_own-claim-requires-clause-mine g c = may_claim _ _ _ _ _ c.requires.calm (
 pub push-requires-2 : goal.push-requires-2
 push-requires-2 g c = let few = below_few _ _ _ _ _ c.requires.calm in rw c.requires.equipped.room.stack few
 
-pub returns-in-Won : goal.returns-in-Won
-returns-in-Won g c =
+pub stands-requires-in-Won : goal.stands-requires-in-Won
+stands-requires-in-Won g c =
     let v = c.args.worker.run.hand.seat.token.me.0 in
     let w = c.claim_own-claim.new.self.hand.seat.token.me.0 in
     let at = c.args.worker.tally.base + c.args.level.first + c.args.level.next in
@@ -41,8 +41,8 @@ returns-in-Won g c =
       stands = rw (ap (λ (f : Frames). f.levels) c.push-2.ensures) begun;
     }
 
-pub returns-in-Stolen : goal.returns-in-Stolen
-returns-in-Stolen g c =
+pub stands-requires-in-Stolen : goal.stands-requires-in-Stolen
+stands-requires-in-Stolen g c =
     let v = c.args.worker.run.hand.seat.token.me.0 in
     let w = c.claim_own-claim.new.self.hand.seat.token.me.0 in
     let at = c.args.worker.tally.base + c.args.level.first + c.args.level.next in

@@ -30,8 +30,8 @@ finish-worker-requires-clause-room g c =
 pub push-requires : goal.push-requires
 push-requires g c = let few = below_few _ _ _ _ _ c.requires.calm in rw c.requires.equipped.room.stack few
 
-pub returns : goal.returns
-returns g c =
+pub stands-requires-2 : goal.stands-requires-2
+stands-requires-2 g c =
     let same = some_left _ _ _ _ _ _ c.requires.calm _ c.left.ensures.left c.if-left-eq0.false in
     record {
       equipped = equipped_with _ _ _ _ (ap (λ (f : Frames). f.room) c.push.ensures) refl refl c.requires.equipped;

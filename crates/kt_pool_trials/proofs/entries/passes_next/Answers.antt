@@ -24,16 +24,16 @@ push-requires-in-Finished g c = let few = below_few _ _ _ _ _ c.requires.calm in
 pub push-requires-in-Empty : goal.push-requires-in-Empty
 push-requires-in-Empty g c = let few = below_few _ _ _ _ _ c.requires.calm in rw c.requires.equipped.room.stack few
 
-pub returns-in-Finished : goal.returns-in-Finished
-returns-in-Finished g c =
+pub stands-requires-in-Finished : goal.stands-requires-in-Finished
+stands-requires-in-Finished g c =
     let gone = (passed _ _ _ _ _ _ c.requires.calm (omega (arith, c.if-level.false)) _ c.stand.result refl c.stand.ensures.looked c.stand.ensures.state c.in-Finished.is).0 in
     record {
       equipped = equipped_with _ _ _ _ (ap (λ (f : Frames). f.room) c.push-in-Finished.ensures) refl refl c.requires.equipped;
       stands = rw (ap (λ (f : Frames). f.levels) c.push-in-Finished.ensures) gone;
     }
 
-pub returns-in-Empty : goal.returns-in-Empty
-returns-in-Empty g c =
+pub stands-requires-in-Empty : goal.stands-requires-in-Empty
+stands-requires-in-Empty g c =
     let calm = (calm_stands _ _ _ _ _ _ _ c.stand.ensures.looked c.requires.calm).0 in
     record {
       equipped = equipped_with _ _ _ _ (ap (λ (f : Frames). f.room) c.push-in-Empty.ensures) refl refl c.requires.equipped;

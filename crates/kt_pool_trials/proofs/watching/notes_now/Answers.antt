@@ -14,12 +14,12 @@ note_accesses-requires-clause-looked g c = (
   ap (λ (y : View). y.seen.notes) c.stand-state.ensures.looked,
 )
 
-pub returns-then-not-is_first_unclaimed : goal.returns-then-not-is_first_unclaimed
-returns-then-not-is_first_unclaimed g c =
+pub stands-requires : goal.stands-requires
+stands-requires g c =
     record { equipped = c.requires.equipped; stands = (calm_stands _ _ _ _ _ c.args.at _ c.stand-state.ensures.looked c.requires.calm).0 }
 
-pub returns : goal.returns
-returns g c =
+pub stands-requires-2 : goal.stands-requires-2
+stands-requires-2 g c =
     let v = c.args.worker.run.hand.seat.token.me.0 in
     let x = c.stand-state.result in
     let calm = (calm_stands _ _ _ _ _ c.args.at _ c.stand-state.ensures.looked c.requires.calm).0 in

@@ -11,8 +11,8 @@ offer-requires-clause-inside g c =
     at_stage d.worker.run.hand.seat.token.me.0 d.worker.program.now d.worker.tally d.tools.stack.levels d.stage (S.Noted c.in-Noted.at c.in-Noted.state) c.in-Noted.is c.requires.driven.stands in
     near_record _ _ _ _ c.in-Noted.at h.0 h.2
 
-pub returns-in-Lost : goal.returns-in-Lost
-returns-in-Lost g c =
+pub stands-requires-in-Lost : goal.stands-requires-in-Lost
+stands-requires-in-Lost g c =
     let d = c.args.driven in
     let h : Stands d.worker.run.hand.seat.token.me.0 d.worker.program.now d.worker.tally d.tools.stack.levels (S.Noted c.in-Noted.at c.in-Noted.state) =
     at_stage d.worker.run.hand.seat.token.me.0 d.worker.program.now d.worker.tally d.tools.stack.levels d.stage (S.Noted c.in-Noted.at c.in-Noted.state) c.in-Noted.is c.requires.driven.stands in

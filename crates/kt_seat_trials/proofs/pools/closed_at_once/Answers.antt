@@ -1,6 +1,6 @@
 use Rattle.std.proofs.Common.{◌∙◌}
-use Rattle.kt_pool_trials.proofs.Keeping.{none_claimed, none_ran}
-use Rattle.kt_pool_trials.proofs.pools.closed_at_once.Goals as goal
+use Rattle.kt_seat_trials.proofs.Keeping.{none_claimed, none_ran}
+use Rattle.kt_seat_trials.proofs.pools.closed_at_once.Goals as goal
 
 pub close-requires : goal.close-requires
 close-requires c = (c.requires.seats.0, c.requires.seats.1)

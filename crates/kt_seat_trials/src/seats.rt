@@ -3,7 +3,7 @@ ghost use Rattle.std.specs.Prelude.{◌≡◌, ◌<◌, ◌*◌, ℕ};
 ghost use Rattle.kt_words.specs.declared.layouts.TheConstants.{RECORDS};
 ghost use Rattle.kt_rule.specs.declared.views.Setup.{Setup};
 ghost use Rattle.kt_pool.specs.Seats.{AreSeatsOf, HaveNotStepped, IsSeatOf, run_table};
-ghost use Rattle.kt_pool_trials.specs.Trials.{IsMainsSeat};
+ghost use Rattle.kt_seat_trials.specs.Trials.{IsMainsSeat};
 
 use crate::jobs::opened;
 use kt_law::Stand;

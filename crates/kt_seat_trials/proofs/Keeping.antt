@@ -15,7 +15,7 @@ use Rattle.kt_tasks.specs.declared.states.Claim.{Claim}
 use Rattle.kt_tasks.specs.declared.states.Claim.TheVariants as C
 use Rattle.std.specs.List.{flat_map}
 use Rattle.kt_pool.specs.Seats.{view_at_start, IsSeatOf, AreSeatsOf, HaveNotStepped}
-use Rattle.kt_pool_trials.specs.Trials.{HasMain}
+use Rattle.kt_seat_trials.specs.Trials.{HasMain}
 
 pub live_of : (j : Setup) (t : RunTable) (k : ℕ) (s : Seat) → IsSeatOf j t k s → IsLiveOf t.layout s.worker s.token.me.0
 live_of j t k s h = let p = h.parts in

@@ -1,6 +1,6 @@
 use Rattle.std.proofs.Common.{sym, subst}
 use Rattle.kt_pool.specs.Seats.{AreSeatsOf}
-use Rattle.kt_pool_trials.proofs.seats.tried_and_closed.Goals as goal
+use Rattle.kt_seat_trials.proofs.seats.tried_and_closed.Goals as goal
 
 pub tried-seats-requires : goal.tried-seats-requires
 tried-seats-requires c = let q = c.requires in

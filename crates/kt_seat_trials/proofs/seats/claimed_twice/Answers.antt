@@ -1,6 +1,6 @@
 use Rattle.std.proofs.Common.{arith, ◌∙◌, ap}
-use Rattle.kt_pool_trials.proofs.Keeping.{live_of, seat_keeps, main_keeps, mains_claim, claim_keeps}
-use Rattle.kt_pool_trials.proofs.seats.claimed_twice.Goals as goal
+use Rattle.kt_seat_trials.proofs.Keeping.{live_of, seat_keeps, main_keeps, mains_claim, claim_keeps}
+use Rattle.kt_seat_trials.proofs.seats.claimed_twice.Goals as goal
 
 pub claim_own-first-requires-clause-seat : goal.claim_own-first-requires-clause-seat
 claim_own-first-requires-clause-seat c = c.requires.1.0.table

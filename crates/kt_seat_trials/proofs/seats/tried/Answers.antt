@@ -1,7 +1,7 @@
 use Rattle.std.proofs.Common.{arith, ◌++◌, ◌∙◌, ap, [], ◌∷◌, List, slice_get}
 use Rattle.kt_rule.specs.declared.seats.Seat.{Seat}
-use Rattle.kt_pool_trials.proofs.Keeping.{main_at_start, three, three_are, seats_are}
-use Rattle.kt_pool_trials.proofs.seats.tried.Goals as goal
+use Rattle.kt_seat_trials.proofs.Keeping.{main_at_start, three, three_are, seats_are}
+use Rattle.kt_seat_trials.proofs.seats.tried.Goals as goal
 
 pub claimed_twice-first-requires : goal.claimed_twice-first-requires
 claimed_twice-first-requires c =

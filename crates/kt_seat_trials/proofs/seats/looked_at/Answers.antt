@@ -1,8 +1,8 @@
 use Rattle.std.proofs.Common.{subst, ◌<◌, ◌*◌, refl}
 use Rattle.kt_words.specs.declared.layouts.TheConstants.{RECORDS}
 use Rattle.kt_rule.specs.Steps.{stands}
-use Rattle.kt_pool_trials.proofs.Keeping.{live_of, seat_keeps, keeps_is}
-use Rattle.kt_pool_trials.proofs.seats.looked_at.Goals as goal
+use Rattle.kt_seat_trials.proofs.Keeping.{live_of, seat_keeps, keeps_is}
+use Rattle.kt_seat_trials.proofs.seats.looked_at.Goals as goal
 
 pub stand-requires-clause-seat : goal.stand-requires-clause-seat
 stand-requires-clause-seat c = c.requires.2.table
