@@ -1,10 +1,10 @@
 // A core, event by event.
 ghost use Rattle.kt_prog.specs.Accepted.{IsAccepted};
 
-use crate::driven::{ask, main_has_run};
+use crate::driven::{ask, ask_index, begin, main_has_run};
 use crate::jobs::opened;
 use kt_core::{Core, Event, Phase, Why};
-use kt_prog::{Program, inputs, laws};
+use kt_prog::{Operation, Program, inputs, laws};
 use std::alloc::Global;
 use std::process::Abort;
 use std::test::Fail;
@@ -69,5 +69,25 @@ fn a_task_finishes(rt: HostRuntime) -> Result<(), Fail> {
     let tasks = core.tasks();
     assert!(rt; tasks == 1);
     assert!(rt; core.phase(0) == Phase::Finished && core.open_child(0).is_none());
+    Ok(())
+}
+
+const A_LOOP: &str = "loop each(i;) {} main { fork each(4;); } data";
+
+#[test]
+fn a_loop_of_four_indexes(rt: HostRuntime) -> Result<(), Fail> {
+    let alloc = rt.alloc();
+    let (program, _) = opened(alloc, A_LOOP)?;
+    let mut core = begun(&rt, alloc, &program)?;
+    let core = &mut core;
+    assert!(rt; ask(&rt, core, &Event::ClaimInOrder(1)) == Ok(()));
+    assert!(rt; begin(&rt, core, 1) == Ok(()));
+    assert!(rt; ask(&rt, core, &Event::Split(1, 2)) == Ok(()));
+    assert!(rt; ask(&rt, core, &Event::Split(1, 2)) == Err(Why::NoPiece));
+    assert!(rt; ask(&rt, core, &Event::Take(1, 2, 3)) == Err(Why::NoPiece));
+    assert!(rt; ask(&rt, core, &Event::Take(1, 2, 2)) == Ok(()));
+    assert!(rt; ask_index(&rt, core, 1, 0, Operation::End) == Err(Why::NotTaken(0)));
+    assert!(rt; ask(&rt, core, &Event::Retire(1, 1)) == Err(Why::NotEnded(0)));
+    assert!(rt; ask(&rt, core, &Event::Finish(1)) == Err(Why::Left(4)));
     Ok(())
 }

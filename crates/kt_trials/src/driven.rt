@@ -1,17 +1,19 @@
 // Bodies that run on a core.
-ghost use Rattle.std.specs.Prelude.{◌≡◌, [], true};
+ghost use Rattle.std.specs.Prelude.{◌≡◌, ◌<◌, [], length, true};
 ghost use Rattle.kt_body.specs.Doing.{Followed};
 ghost use Rattle.kt_body.specs.Endings.{IsCalled};
 ghost use Rattle.kt_prog.specs.Accepted.{IsAccepted};
+ghost use Rattle.kt_prog.specs.declared.runs.Operation.{Operation};
 ghost use Rattle.kt_trials.specs.Driven.{CanGo, IsPlain, StandsAt};
-ghost use Rattle.kt_tables.specs.TableEvents.{task_of};
+ghost use Rattle.kt_tables.specs.TableEvents.{CanAsk, task_of};
 ghost use Rattle.kt_tables.specs.Tables.{opening_state};
+ghost use Rattle.kt_tables.specs.declared.events.Event.TheVariants as event_is;
 
 use kt_body::{Ended, Got, Ops, Went, run_body};
 use kt_core::{Core, Event, Why};
 use kt_law::Op;
-use kt_prog::laws::next_is_on_element;
-use kt_prog::{Call, Operation, Program};
+use kt_prog::laws::{loop_is_zeroing, next_is_on_element};
+use kt_prog::{Call, Form, Operation, Program};
 use std::process::Abort;
 
 /// A core, and the task whose body runs on it.
@@ -127,4 +129,59 @@ pub fn ask(rt: &impl Abort, core: &mut Core, event: &Event) -> Result<(), Why>
     let tasks = core.tasks();
     assert!(rt; task < tasks);
     core.step(event)
+}
+
+fn has_no_access(call: &Call) -> bool
+    ensures { result ≡ true → call.now.accesses ≡ [] }
+{
+    match call.accesses.as_slice() {
+        [] => true,
+        _ => false,
+    }
+}
+
+/// Whether the task is a loop that has nothing to zero, so that it may begin once it is claimed.
+fn is_bare_loop(core: &Core, task: u32) -> bool
+    requires { task < length core.now.table.tasks }
+    ensures { result ≡ true → CanAsk core.now.program (event_is.Begin task) core.now.table }
+{
+    loop_is_zeroing();
+    let call = core.call(task);
+    match call.form(core.program()) {
+        Form::Loop => has_no_access(call),
+        _ => false,
+    }
+}
+
+/// Whether the index is not taken, or has ended.
+#[tactic(auto, using(crate::proofs::Driving::can_ask_idle))]
+fn is_idle(core: &Core, task: u32, index: u32) -> bool
+    requires { task < length core.now.table.tasks }
+    ensures { result ≡ true → (operation : Operation) → CanAsk core.now.program (event_is.Index task index operation) core.now.table }
+{
+    !core.is_under_way(task, index)
+}
+
+/// The answer to the beginning of a loop that has nothing to zero.
+pub fn begin(rt: &impl Abort, core: &mut Core, task: u32) -> Result<(), Why> {
+    let tasks = core.tasks();
+    assert!(rt; task < tasks);
+    let bare = is_bare_loop(core, task);
+    assert!(rt; bare);
+    core.step(&Event::Begin(task))
+}
+
+/// The answer to an operation of an index that is not under way.
+pub fn ask_index(
+    rt: &impl Abort,
+    core: &mut Core,
+    task: u32,
+    index: u32,
+    operation: Operation,
+) -> Result<(), Why> {
+    let tasks = core.tasks();
+    assert!(rt; task < tasks);
+    let idle = is_idle(core, task, index);
+    assert!(rt; idle);
+    core.step(&Event::Index(task, index, operation))
 }
