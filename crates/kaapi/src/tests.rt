@@ -10,6 +10,7 @@ use std::test::Fail;
 mod crews;
 mod cut;
 mod demos;
+mod generated;
 mod loops;
 mod streams;
 

@@ -1,15 +1,7 @@
 // Loops of many lengths, in reference order and by workers.
-use super::streams::{SOUND, ends};
-use super::words_of;
+use super::streams::{SOUND, ends, ends_whole};
 use crate::exits::Exit;
-use crate::top::top;
-use kt_io::{MemSink, MemSource};
-use kt_worker::NoGate;
-use std::alloc::Global;
-use std::process::Abort;
-use std::sync::Wait;
 use std::test::Fail;
-use std::thread::Threads;
 
 /// A job but for one number.
 type Around = (&'static str, &'static str);
@@ -34,23 +26,6 @@ const LENGTHS: [(Around, u64, Exit, &str); 7] = [
     (MANY, 257, Exit::Limit, "limit\n"),
 ];
 
-fn by_workers<R: Abort + Threads + Wait + Sync>(
-    rt: &R,
-    alloc: Global,
-    words: &str,
-    job: &str,
-    exit: Exit,
-    text: &str,
-) -> Result<(), Fail> {
-    let mut source = MemSource::new(job.as_bytes().to_vec(alloc)?, 1_000, Vec::new(alloc));
-    let mut sink = MemSink::new(alloc, 1_000, 1_000, Vec::new(alloc))?;
-    let words = words_of(alloc, words)?;
-    let (found, record) = top(rt, alloc, &words, &mut source, &mut sink, &NoGate);
-    assert!(rt; found == exit && record.is_some(), "{text}");
-    assert!(rt; sink.written() == text.as_bytes(), "{text}");
-    Ok(())
-}
-
 #[test]
 fn loops_of_many_lengths(rt: HostRuntime) -> Result<(), Fail> {
     let alloc = rt.alloc();
@@ -64,8 +39,10 @@ fn loops_of_many_lengths(rt: HostRuntime) -> Result<(), Fail> {
             &SOUND,
             (exit, text.as_bytes()),
         )?;
-        by_workers(&rt, alloc, "run 1", &job, exit, text)?;
-        by_workers(&rt, alloc, "run 4", &job, exit, text)?;
+        for words in ["run 1", "run 4"] {
+            let wanted = (exit, text.as_bytes());
+            ends_whole(&rt, alloc, words, job.as_bytes(), &SOUND, wanted)?;
+        }
     }
     Ok(())
 }
