@@ -11,3 +11,4 @@ pub mod Passing
 pub mod Objects
 pub mod Rooms
 pub mod Starting
+pub mod Widths

@@ -4,3 +4,4 @@ pub mod Moves
 pub mod Scenes
 pub mod Forking
 pub mod Starts
+pub mod Widths

@@ -11,6 +11,7 @@ ghost use Rattle.kt_body.specs.Scenes.{site_in};
 ghost use Rattle.kt_body.specs.Starts.{IsTask, given_body};
 
 use crate::exec::exec_all;
+use crate::measured::Measured;
 use crate::ops::{Early, Ended, Ops, Went};
 use crate::scene::Scene;
 use crate::start::name_params;
@@ -24,23 +25,28 @@ fn run_statements<'a, O: Ops>(
     stmts: &'a [Stmt],
     ops: &mut O,
 ) -> Result<(), Early>
-    requires can { Can O.at O.goes O.halted scene.now.program.now ops.old (statements (λ w. w) (site_in scene.now) walk.old.locals stmts.now) }
+    requires can { Can O.at O.goes O.halted scene.now.program.now ops.old
+        (statements (λ w. w) (site_in scene.now) walk.old.locals stmts.now) }
     requires steps { walk.old.steps ≡ STEPS }
-    ensures { Ran O.at O.goes O.halted ops.old (statements (λ w. w) (site_in scene.now) walk.old.locals stmts.now) ops.new result }
+    ensures { Ran O.at O.goes O.halted ops.old
+        (statements (λ w. w) (site_in scene.now) walk.old.locals stmts.now) ops.new result }
 {
     exec_all(scene, walk, stmts, ops)
 }
 
 fn run_main<O: Ops>(program: &Program, ops: &mut O) -> Result<(), Early>
-    requires { Can O.at O.goes O.halted program.now ops.old (main_body (λ w. w) program.now program.now.mains) }
-    ensures { Ran O.at O.goes O.halted ops.old (main_body (λ w. w) program.now program.now.mains) ops.new result }
+    requires { Can O.at O.goes O.halted program.now ops.old
+        (main_body (λ w. w) program.now program.now.mains) }
+    ensures { Ran O.at O.goes O.halted ops.old (main_body (λ w. w) program.now program.now.mains)
+        ops.new result }
 {
     let mains = program.mains.as_slice();
     if mains.len() == 0 {
         return Ok(());
     }
+    let measured = Measured::new(program);
     let scene = Scene {
-        program,
+        program: &measured,
         in_main: true,
         depth: 0,
     };
@@ -56,36 +62,43 @@ pub fn run_given<'a, O: Ops>(
     task: &'a Task,
     ops: &mut O,
 ) -> Result<(), Early>
-    requires can { Can O.at O.goes O.halted program.now ops.old (given_body program.now call.now walk.old.locals task.now) }
+    requires can { Can O.at O.goes O.halted program.now ops.old
+        (given_body program.now call.now walk.old.locals task.now) }
     requires fits { Fits program.now call.now }
     requires few { length walk.old.locals ≤ 1 }
     requires steps { walk.old.steps ≡ STEPS }
-    ensures { Ran O.at O.goes O.halted ops.old (given_body program.now call.now walk.old.locals task.now) ops.new result }
+    ensures { Ran O.at O.goes O.halted ops.old
+        (given_body program.now call.now walk.old.locals task.now) ops.new result }
 {
+    let (ints, accesses) = (call.ints.as_slice(), call.accesses.as_slice());
+    let measured = Measured::of(program, accesses);
     let scene = Scene {
-        program,
+        program: &measured,
         in_main: false,
         depth: call.depth,
     };
-    let (ints, accesses) = (call.ints.as_slice(), call.accesses.as_slice());
     name_params(walk, task.params.as_slice(), ints, accesses);
     run_statements(&scene, walk, task.body.as_slice(), ops)
 }
 
 fn run_task<O: Ops>(program: &Program, call: &Call, task: &Task, ops: &mut O) -> Result<(), Early>
-    requires can { Can O.at O.goes O.halted program.now ops.old (task_body (λ w. w) program.now call.now (Some task.now)) }
+    requires can { Can O.at O.goes O.halted program.now ops.old
+        (task_body (λ w. w) program.now call.now (Some task.now)) }
     requires fits { Fits program.now call.now }
-    ensures { Ran O.at O.goes O.halted ops.old (task_body (λ w. w) program.now call.now (Some task.now)) ops.new result }
+    ensures { Ran O.at O.goes O.halted ops.old
+        (task_body (λ w. w) program.now call.now (Some task.now)) ops.new result }
 {
     let mut walk = Walk::new();
     run_given(program, call, &mut walk, task, ops)
 }
 
 fn run_call<O: Ops>(program: &Program, call: &Call, ops: &mut O) -> Result<(), Early>
-    requires can { Can O.at O.goes O.halted program.now ops.old (call_body (λ w. w) program.now call.now call.now.task) }
+    requires can { Can O.at O.goes O.halted program.now ops.old
+        (call_body (λ w. w) program.now call.now call.now.task) }
     requires fits { Fits program.now call.now }
     requires task { IsTask program.now call.now }
-    ensures { Ran O.at O.goes O.halted ops.old (call_body (λ w. w) program.now call.now call.now.task) ops.new result }
+    ensures { Ran O.at O.goes O.halted ops.old
+        (call_body (λ w. w) program.now call.now call.now.task) ops.new result }
 {
     if call.task == 0 {
         return run_main(program, ops);
@@ -100,10 +113,12 @@ fn run_call<O: Ops>(program: &Program, call: &Call, ops: &mut O) -> Result<(), E
 }
 
 fn run_whole<O: Ops>(program: &Program, call: &Call, ops: &mut O) -> Result<(), Early>
-    requires can { Can O.at O.goes O.halted program.now ops.old (job_body (λ w. w) program.now (Whole call.now)) }
+    requires can { Can O.at O.goes O.halted program.now ops.old
+        (job_body (λ w. w) program.now (Whole call.now)) }
     requires fits { Fits program.now call.now }
     requires task { IsTask program.now call.now }
-    ensures { Ran O.at O.goes O.halted ops.old (job_body (λ w. w) program.now (Whole call.now)) ops.new result }
+    ensures { Ran O.at O.goes O.halted ops.old (job_body (λ w. w) program.now (Whole call.now))
+        ops.new result }
 {
     match zero_each(program, call.accesses.as_slice(), ops) {
         Went::Went => run_call(program, call, ops),

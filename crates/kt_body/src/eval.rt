@@ -20,8 +20,10 @@ pub fn eval<O: Ops>(
     e: &Expr,
     ops: &mut O,
 ) -> Result<u64, Early>
-    requires { Can O.at O.goes O.halted scene.now.program.now ops.old (value_of (λ w. w) e.now (view (site_in scene.now) walk.now line)) }
-    ensures { Ran O.at O.goes O.halted ops.old (value_of (λ w. w) e.now (view (site_in scene.now) walk.now line)) ops.new result }
+    requires { Can O.at O.goes O.halted scene.now.program.now ops.old
+        (value_of (λ w. w) e.now (view (site_in scene.now) walk.now line)) }
+    ensures { Ran O.at O.goes O.halted ops.old
+        (value_of (λ w. w) e.now (view (site_in scene.now) walk.now line)) ops.new result }
 {
     match e {
         Expr::Num(n) => Ok(*n),

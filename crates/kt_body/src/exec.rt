@@ -21,8 +21,10 @@ fn bind<'a, O: Ops>(
     e: &Expr,
     ops: &mut O,
 ) -> Result<(), Early>
-    requires { Can O.at O.goes O.halted scene.now.program.now ops.old (bound_to name.now e.now line (site_in scene.now) walk.old) }
-    ensures { RanTo O.at O.goes O.halted ops.old (bound_to name.now e.now line (site_in scene.now) walk.old) ops.new walk.new result }
+    requires { Can O.at O.goes O.halted scene.now.program.now ops.old
+        (bound_to name.now e.now line (site_in scene.now) walk.old) }
+    ensures { RanTo O.at O.goes O.halted ops.old
+        (bound_to name.now e.now line (site_in scene.now) walk.old) ops.new walk.new result }
 {
     let n = eval(scene, walk, line, e, ops)?;
     walk.add(name, n);
@@ -37,8 +39,10 @@ fn change<O: Ops>(
     e: &Expr,
     ops: &mut O,
 ) -> Result<(), Early>
-    requires { Can O.at O.goes O.halted scene.now.program.now ops.old (changed name.now e.now line (site_in scene.now) walk.old) }
-    ensures { RanTo O.at O.goes O.halted ops.old (changed name.now e.now line (site_in scene.now) walk.old) ops.new walk.new result }
+    requires { Can O.at O.goes O.halted scene.now.program.now ops.old
+        (changed name.now e.now line (site_in scene.now) walk.old) }
+    ensures { RanTo O.at O.goes O.halted ops.old
+        (changed name.now e.now line (site_in scene.now) walk.old) ops.new walk.new result }
 {
     let n = eval(scene, walk, line, e, ops)?;
     walk.set(name, n);
@@ -55,8 +59,11 @@ fn write<O: Ops>(
     e: &Expr,
     ops: &mut O,
 ) -> Result<(), Early>
-    requires { Can O.at O.goes O.halted scene.now.program.now ops.old (written write name.now at.now e.now (view (site_in scene.now) walk.now line)) }
-    ensures { Ran O.at O.goes O.halted ops.old (written write name.now at.now e.now (view (site_in scene.now) walk.now line)) ops.new result }
+    requires { Can O.at O.goes O.halted scene.now.program.now ops.old
+        (written write name.now at.now e.now (view (site_in scene.now) walk.now line)) }
+    ensures { Ran O.at O.goes O.halted ops.old
+        (written write name.now at.now e.now (view (site_in scene.now) walk.now line))
+        ops.new result }
 {
     let object = object_at(scene, walk, name);
     let i = eval(scene, walk, line, at, ops)?;
@@ -72,8 +79,11 @@ pub fn exec_all<'a, O: Ops>(
     stmts: &'a [Stmt],
     ops: &mut O,
 ) -> Result<(), Early>
-    requires { Can O.at O.goes O.halted scene.now.program.now ops.old (block (map (stmt_of (λ w. w)) stmts.now) (site_in scene.now) walk.old) }
-    ensures { RanTo O.at O.goes O.halted ops.old (block (map (stmt_of (λ w. w)) stmts.now) (site_in scene.now) walk.old) ops.new walk.new result }
+    requires { Can O.at O.goes O.halted scene.now.program.now ops.old
+        (block (map (stmt_of (λ w. w)) stmts.now) (site_in scene.now) walk.old) }
+    ensures { RanTo O.at O.goes O.halted ops.old
+        (block (map (stmt_of (λ w. w)) stmts.now) (site_in scene.now) walk.old) ops.new walk.new
+        result }
 {
     for stmt in stmts {
         exec(scene, walk, stmt, ops)?;
@@ -88,8 +98,10 @@ fn exec<'a, O: Ops>(
     stmt: &'a Stmt,
     ops: &mut O,
 ) -> Result<(), Early>
-    requires { Can O.at O.goes O.halted scene.now.program.now ops.old (stmt_of (λ w. w) stmt.now (site_in scene.now) walk.old) }
-    ensures { RanTo O.at O.goes O.halted ops.old (stmt_of (λ w. w) stmt.now (site_in scene.now) walk.old) ops.new walk.new result }
+    requires { Can O.at O.goes O.halted scene.now.program.now ops.old
+        (stmt_of (λ w. w) stmt.now (site_in scene.now) walk.old) }
+    ensures { RanTo O.at O.goes O.halted ops.old
+        (stmt_of (λ w. w) stmt.now (site_in scene.now) walk.old) ops.new walk.new result }
 {
     let line = stmt.place.line;
     walk.begin(line)?;

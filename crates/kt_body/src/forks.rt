@@ -28,8 +28,10 @@ fn length_of<O: Ops>(
     len: &Option<Expr>,
     ops: &mut O,
 ) -> Result<u32, Early>
-    requires { Can O.at O.goes O.halted scene.now.program.now ops.old (length_step (λ w. w) len.now (view (site_in scene.now) walk.now line)) }
-    ensures { Ran O.at O.goes O.halted ops.old (length_step (λ w. w) len.now (view (site_in scene.now) walk.now line)) ops.new result }
+    requires { Can O.at O.goes O.halted scene.now.program.now ops.old
+        (length_step (λ w. w) len.now (view (site_in scene.now) walk.now line)) }
+    ensures { Ran O.at O.goes O.halted ops.old
+        (length_step (λ w. w) len.now (view (site_in scene.now) walk.now line)) ops.new result }
 {
     match len {
         None => Ok(0),
@@ -50,8 +52,10 @@ fn number_arg<O: Ops>(
     what: &ArgWhat,
     ops: &mut O,
 ) -> Result<u64, Early>
-    requires { Can O.at O.goes O.halted scene.now.program.now ops.old (number_of (λ w. w) what.now (view (site_in scene.now) walk.now line)) }
-    ensures { Ran O.at O.goes O.halted ops.old (number_of (λ w. w) what.now (view (site_in scene.now) walk.now line)) ops.new result }
+    requires { Can O.at O.goes O.halted scene.now.program.now ops.old
+        (number_of (λ w. w) what.now (view (site_in scene.now) walk.now line)) }
+    ensures { Ran O.at O.goes O.halted ops.old
+        (number_of (λ w. w) what.now (view (site_in scene.now) walk.now line)) ops.new result }
 {
     match what {
         ArgWhat::Value(e) => eval(scene, walk, line, e, ops),
@@ -66,8 +70,11 @@ fn object_expr<O: Ops>(
     e: &Expr,
     ops: &mut O,
 ) -> Result<u32, Early>
-    requires { Can O.at O.goes O.halted scene.now.program.now ops.old (object_step (λ w. w) (out-Expr e.now) (view (site_in scene.now) walk.now line)) }
-    ensures value { Ran O.at O.goes O.halted ops.old (object_step (λ w. w) (out-Expr e.now) (view (site_in scene.now) walk.now line)) ops.new result }
+    requires { Can O.at O.goes O.halted scene.now.program.now ops.old
+        (object_step (λ w. w) (out-Expr e.now) (view (site_in scene.now) walk.now line)) }
+    ensures value { Ran O.at O.goes O.halted ops.old
+        (object_step (λ w. w) (out-Expr e.now) (view (site_in scene.now) walk.now line))
+        ops.new result }
     ensures small { IfOk result (λ o. o + 1 < 2 ^ 32) }
 {
     match e {
@@ -89,8 +96,10 @@ fn object_arg<O: Ops>(
     what: &ArgWhat,
     ops: &mut O,
 ) -> Result<u32, Early>
-    requires { Can O.at O.goes O.halted scene.now.program.now ops.old (object_of (λ w. w) what.now (view (site_in scene.now) walk.now line)) }
-    ensures value { Ran O.at O.goes O.halted ops.old (object_of (λ w. w) what.now (view (site_in scene.now) walk.now line)) ops.new result }
+    requires { Can O.at O.goes O.halted scene.now.program.now ops.old
+        (object_of (λ w. w) what.now (view (site_in scene.now) walk.now line)) }
+    ensures value { Ran O.at O.goes O.halted ops.old
+        (object_of (λ w. w) what.now (view (site_in scene.now) walk.now line)) ops.new result }
     ensures small { IfOk result (λ o. o + 1 < 2 ^ 32) }
 {
     match what {
@@ -101,7 +110,8 @@ fn object_arg<O: Ops>(
 
 fn range_expr(scene: &Scene, walk: &Walk, line: u32, e: &Expr) -> Members
     requires { objects_of scene.now.program.now.families ≤ OBJECTS }
-    ensures { range_step (λ w. w) (out-Expr e.now) (view (site_in scene.now) walk.now line) ≡ give result }
+    ensures { range_step (λ w. w) (out-Expr e.now) (view (site_in scene.now) walk.now line)
+        ≡ give result }
 {
     match e {
         Expr::Num(_) => nowhere(),
@@ -118,8 +128,10 @@ fn range_arg<O: Ops>(
     what: &ArgWhat,
     ops: &mut O,
 ) -> Result<Members, Early>
-    requires { Can O.at O.goes O.halted scene.now.program.now ops.old (range_of (λ w. w) what.now (view (site_in scene.now) walk.now line)) }
-    ensures { Ran O.at O.goes O.halted ops.old (range_of (λ w. w) what.now (view (site_in scene.now) walk.now line)) ops.new result }
+    requires { Can O.at O.goes O.halted scene.now.program.now ops.old
+        (range_of (λ w. w) what.now (view (site_in scene.now) walk.now line)) }
+    ensures { Ran O.at O.goes O.halted ops.old
+        (range_of (λ w. w) what.now (view (site_in scene.now) walk.now line)) ops.new result }
 {
     match what {
         ArgWhat::Value(e) => Ok(range_expr(scene, walk, line, e)),
@@ -141,10 +153,13 @@ fn pass<O: Ops>(
     passed: &mut Passed,
     ops: &mut O,
 ) -> Result<(), Early>
-    requires can { Can O.at O.goes O.halted scene.now.program.now ops.old (argument (λ w. w) sort arg.now (view (site_in scene.now) walk.now line) passed.old) }
+    requires can { Can O.at O.goes O.halted scene.now.program.now ops.old
+        (argument (λ w. w) sort arg.now (view (site_in scene.now) walk.now line) passed.old) }
     requires room { HasRoom passed.old (sort ∷ []) }
     ensures grown { Grows sort passed.old passed.new }
-    ensures ran { RanTo O.at O.goes O.halted ops.old (argument (λ w. w) sort arg.now (view (site_in scene.now) walk.now line) passed.old) ops.new passed.new result }
+    ensures ran { RanTo O.at O.goes O.halted ops.old
+        (argument (λ w. w) sort arg.now (view (site_in scene.now) walk.now line) passed.old)
+        ops.new passed.new result }
 {
     match sort {
         Sort::Int => {
@@ -173,9 +188,13 @@ fn pass_all<O: Ops>(
     args: &[Arg],
     ops: &mut O,
 ) -> Result<Passed, Early>
-    requires can { Can O.at O.goes O.halted scene.now.program.now ops.old (arguments (λ w. w) (target_in target.now).sorts args.now (view (site_in scene.now) walk.now line) nothing_given) }
+    requires can { Can O.at O.goes O.halted scene.now.program.now ops.old
+        (arguments (λ w. w) (target_in target.now).sorts args.now
+        (view (site_in scene.now) walk.now line) nothing_given) }
     requires room { HasRoom nothing_given (target_in target.now).sorts }
-    ensures { Ran O.at O.goes O.halted ops.old (arguments (λ w. w) (target_in target.now).sorts args.now (view (site_in scene.now) walk.now line) nothing_given) ops.new result }
+    ensures { Ran O.at O.goes O.halted ops.old
+        (arguments (λ w. w) (target_in target.now).sorts args.now
+        (view (site_in scene.now) walk.now line) nothing_given) ops.new result }
 {
     let mut passed = Passed::nothing();
     for i in 0..args.len() {
@@ -196,9 +215,13 @@ fn fork_target<O: Ops>(
     args: &[Arg],
     ops: &mut O,
 ) -> Result<(), Early>
-    requires can { Can O.at O.goes O.halted scene.now.program.now ops.old (fork_step (λ w. w) (target_in target.now) len.now args.now (view (site_in scene.now) walk.now line)) }
+    requires can { Can O.at O.goes O.halted scene.now.program.now ops.old
+        (fork_step (λ w. w) (target_in target.now) len.now args.now
+        (view (site_in scene.now) walk.now line)) }
     requires room { HasRoom nothing_given (target_in target.now).sorts }
-    ensures { Ran O.at O.goes O.halted ops.old (fork_step (λ w. w) (target_in target.now) len.now args.now (view (site_in scene.now) walk.now line)) ops.new result }
+    ensures { Ran O.at O.goes O.halted ops.old
+        (fork_step (λ w. w) (target_in target.now) len.now args.now
+        (view (site_in scene.now) walk.now line)) ops.new result }
 {
     let length = length_of(scene, walk, line, len, ops)?;
     let passed = pass_all(scene, walk, line, target, args, ops)?;
@@ -232,10 +255,14 @@ pub fn fork<O: Ops>(
     args: &[Arg],
     ops: &mut O,
 ) -> Result<(), Early>
-    requires { Can O.at O.goes O.halted scene.now.program.now ops.old (fork_named (λ w. w) (target_of scene.now.program.now.tasks name.now) len.now args.now (view (site_in scene.now) walk.now line)) }
-    ensures { Ran O.at O.goes O.halted ops.old (fork_named (λ w. w) (target_of scene.now.program.now.tasks name.now) len.now args.now (view (site_in scene.now) walk.now line)) ops.new result }
+    requires { Can O.at O.goes O.halted scene.now.program.now ops.old
+        (fork_named (λ w. w) (target_of scene.now.program.now.tasks name.now) len.now args.now
+        (view (site_in scene.now) walk.now line)) }
+    ensures { Ran O.at O.goes O.halted ops.old
+        (fork_named (λ w. w) (target_of scene.now.program.now.tasks name.now) len.now args.now
+        (view (site_in scene.now) walk.now line)) ops.new result }
 {
-    match target_at(scene.program, name) {
+    match target_at(scene.program.program(), name) {
         None => Ok(()),
         Some(target) => fork_target(scene, walk, line, &target, len, args, ops),
     }

@@ -19,9 +19,11 @@ fn run_index_of<O: Ops>(
     task: &Task,
     ops: &mut O,
 ) -> Result<(), Early>
-    requires can { Can O.at O.goes O.halted program.now ops.old (index_body (λ w. w) program.now call.now index (Some task.now)) }
+    requires can { Can O.at O.goes O.halted program.now ops.old
+        (index_body (λ w. w) program.now call.now index (Some task.now)) }
     requires fits { Fits program.now call.now }
-    ensures { Ran O.at O.goes O.halted ops.old (index_body (λ w. w) program.now call.now index (Some task.now)) ops.new result }
+    ensures { Ran O.at O.goes O.halted ops.old
+        (index_body (λ w. w) program.now call.now index (Some task.now)) ops.new result }
 {
     let mut walk = Walk::new();
     name_index(&mut walk, &task.index, index);
@@ -29,9 +31,13 @@ fn run_index_of<O: Ops>(
 }
 
 fn run_at<O: Ops>(program: &Program, call: &Call, index: u32, ops: &mut O) -> Result<(), Early>
-    requires can { Can O.at O.goes O.halted program.now ops.old (index_body (λ w. w) program.now call.now index (task_at program.now.tasks (call.now.task - 1))) }
+    requires can { Can O.at O.goes O.halted program.now ops.old
+        (index_body (λ w. w) program.now call.now index
+        (task_at program.now.tasks (call.now.task - 1))) }
     requires fits { Fits program.now call.now }
-    ensures { Ran O.at O.goes O.halted ops.old (index_body (λ w. w) program.now call.now index (task_at program.now.tasks (call.now.task - 1))) ops.new result }
+    ensures { Ran O.at O.goes O.halted ops.old
+        (index_body (λ w. w) program.now call.now index
+        (task_at program.now.tasks (call.now.task - 1))) ops.new result }
 {
     let tasks = program.tasks.as_slice();
     let at = call.task.saturating_sub(1) as usize;
@@ -45,7 +51,8 @@ fn run_at<O: Ops>(program: &Program, call: &Call, index: u32, ops: &mut O) -> Re
 /// The operations of one index of a loop's call, in order. The zeroing isn't among them: it is done once, before the first index.
 pub fn run_index<O: Ops>(program: &Program, call: &Call, index: u32, ops: &mut O) -> Ended
     requires { Begins O.at O.goes O.halted program.now (Index call.now index) ops.old }
-    ensures { EndsSo O.at O.goes O.halted program.now (Index call.now index) ops.old ops.new result }
+    ensures { EndsSo O.at O.goes O.halted program.now (Index call.now index)
+        ops.old ops.new result }
 {
     match run_at(program, call, index, ops) {
         Ok(()) => Ended::Done,

@@ -7,6 +7,7 @@ mod exec;
 mod forks;
 mod index;
 mod lookups;
+mod measured;
 mod ops;
 mod passed;
 mod scene;

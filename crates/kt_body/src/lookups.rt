@@ -69,7 +69,7 @@ fn bound_at(scene: &Scene, walk: &Walk, name: &Name) -> Option<Bound>
         Some(bound) => Some(bound),
         None => {
             if scene.in_main {
-                family_bound(scene.program.families.as_slice(), name)
+                family_bound(scene.program.program().families.as_slice(), name)
             } else {
                 None
             }
@@ -117,7 +117,8 @@ fn range_of(bound: Option<Bound>) -> Members
 /// The number that a name stands for.
 pub fn number_at(scene: &Scene, walk: &Walk, name: &Name) -> u64
     requires { objects_of scene.now.program.now.families ≤ OBJECTS }
-    ensures { number_in (λ w. w) (bound_of (site_in scene.now) walk.now.locals name.now) ≡ give result }
+    ensures { number_in (λ w. w) (bound_of (site_in scene.now) walk.now.locals name.now)
+        ≡ give result }
 {
     number_of(bound_at(scene, walk, name))
 }
@@ -125,7 +126,8 @@ pub fn number_at(scene: &Scene, walk: &Walk, name: &Name) -> u64
 /// The object that a name stands for.
 pub fn object_at(scene: &Scene, walk: &Walk, name: &Name) -> u32
     requires { objects_of scene.now.program.now.families ≤ OBJECTS }
-    ensures object { object_in (λ w. w) (bound_of (site_in scene.now) walk.now.locals name.now) ≡ give result }
+    ensures object { object_in (λ w. w) (bound_of (site_in scene.now) walk.now.locals name.now)
+        ≡ give result }
     ensures small { result ≤ OBJECTS }
 {
     object_of(bound_at(scene, walk, name))
@@ -134,7 +136,8 @@ pub fn object_at(scene: &Scene, walk: &Walk, name: &Name) -> u32
 /// The objects of the range that a name stands for.
 pub fn range_at(scene: &Scene, walk: &Walk, name: &Name) -> Members
     requires { objects_of scene.now.program.now.families ≤ OBJECTS }
-    ensures { range_in (λ w. w) (bound_of (site_in scene.now) walk.now.locals name.now) ≡ give result }
+    ensures { range_in (λ w. w) (bound_of (site_in scene.now) walk.now.locals name.now)
+        ≡ give result }
 {
     range_of(bound_at(scene, walk, name))
 }

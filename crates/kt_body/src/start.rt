@@ -32,7 +32,8 @@ fn give<'a>(
     requires few_accesses { length accesses.now ≤ ACCESSES }
     ensures part { IsPart walk.new.locals used.new ints.now accesses.now }
     ensures steps { walk.new.steps ≡ walk.old.steps }
-    ensures rest { (params : List Param) → whole_start walk.old.locals used.old (param.now ∷ params) ints.now accesses.now
+    ensures rest { (params : List Param)
+        → whole_start walk.old.locals used.old (param.now ∷ params) ints.now accesses.now
         ≡ whole_start walk.new.locals used.new params ints.now accesses.now }
 {
     match param.sort {
@@ -76,7 +77,8 @@ pub fn name_params<'a>(walk: &mut Walk<'a>, params: &'a [Param], ints: &[u64], a
     requires low { EachOf StartsLow accesses.now }
     requires few_ints { length ints.now ≤ INTS }
     requires few_accesses { length accesses.now ≤ ACCESSES }
-    ensures { walk.new ≡ at_locals walk.old (walk.old.locals ++ given params.now ints.now accesses.now) }
+    ensures { walk.new
+        ≡ at_locals walk.old (walk.old.locals ++ given params.now ints.now accesses.now) }
 {
     let mut used = Used {
         ints: 0,

@@ -119,7 +119,8 @@ impl<'a> Walk<'a> {
     pub fn give(&mut self, name: &'a Name, bound: Bound)
         requires room { length self.old.locals < NAMES }
         requires small { IsSmall bound }
-        ensures { self.new ≡ at_locals self.old (self.old.locals ++ record { name = name.now; bound = bound } ∷ []) }
+        ensures { self.new ≡ at_locals self.old
+            (self.old.locals ++ record { name = name.now; bound = bound } ∷ []) }
     {
         self.locals.push(Slot {
             name: name.as_bytes(),

@@ -4,10 +4,9 @@ ghost use Rattle.kt_body.specs.Moves.{Can, Ran};
 ghost use Rattle.kt_body.specs.Scenes.{fetch, operation_of, put};
 ghost use Rattle.kt_prog.specs.Objects.{width_of};
 
+use crate::measured::Measured;
 use crate::ops::{Early, Got, Ops, Went};
-use crate::zero::width_at;
 use kt_law::{F, Op};
-use kt_prog::Program;
 
 /// What a statement does to an element.
 #[derive(Clone, Copy)]
@@ -18,16 +17,18 @@ pub enum Write {
 
 /// Loads an element that is tested to be there.
 pub fn load_element<O: Ops>(
-    program: &Program,
+    program: &Measured,
     line: u32,
     object: u32,
     i: u64,
     ops: &mut O,
 ) -> Result<u64, Early>
-    requires { Can O.at O.goes O.halted program.now ops.old (fetch (width_of program.now.families) line object i) }
-    ensures { Ran O.at O.goes O.halted ops.old (fetch (width_of program.now.families) line object i) ops.new result }
+    requires { Can O.at O.goes O.halted program.now ops.old
+        (fetch (width_of program.now.families) line object i) }
+    ensures { Ran O.at O.goes O.halted ops.old (fetch (width_of program.now.families) line object i)
+        ops.new result }
 {
-    let width = width_at(program, object);
+    let width = program.width(object);
     if i >= u64::from(width) {
         return Err(Early::Fault(F::F2, line));
     }
@@ -40,7 +41,8 @@ pub fn load_element<O: Ops>(
 /// Stores or folds a value to an element that is there.
 pub fn do_write<O: Ops>(write: Write, object: u32, element: u32, value: u64, ops: &mut O) -> Went
     requires { CanDo O.at O.halted ops.old (λ a. operation_of write object element value) }
-    ensures { Followed O.at O.goes O.halted ops.old (operation_of write object element value) ops.new result }
+    ensures { Followed O.at O.goes O.halted ops.old (operation_of write object element value)
+        ops.new result }
 {
     match write {
         Write::Store => ops.store(object, element, value),
@@ -50,7 +52,7 @@ pub fn do_write<O: Ops>(write: Write, object: u32, element: u32, value: u64, ops
 
 /// Writes a value to an element that is tested to be there.
 pub fn write_element<O: Ops>(
-    program: &Program,
+    program: &Measured,
     line: u32,
     write: Write,
     object: u32,
@@ -58,10 +60,12 @@ pub fn write_element<O: Ops>(
     value: u64,
     ops: &mut O,
 ) -> Result<(), Early>
-    requires { Can O.at O.goes O.halted program.now ops.old (put (width_of program.now.families) line write object i value) }
-    ensures { Ran O.at O.goes O.halted ops.old (put (width_of program.now.families) line write object i value) ops.new result }
+    requires { Can O.at O.goes O.halted program.now ops.old
+        (put (width_of program.now.families) line write object i value) }
+    ensures { Ran O.at O.goes O.halted ops.old
+        (put (width_of program.now.families) line write object i value) ops.new result }
 {
-    let width = width_at(program, object);
+    let width = program.width(object);
     if i >= u64::from(width) {
         return Err(Early::Fault(F::F2, line));
     }

@@ -26,8 +26,10 @@ pub fn width_at(program: &Program, object: u32) -> u32
 }
 
 fn zero_object<O: Ops>(program: &Program, object: u32, ops: &mut O) -> Went
-    requires { Can O.at O.goes O.halted program.now ops.old (zero_elements object 0 (width_of program.now.families object)) }
-    ensures { RanWent O.at O.goes O.halted ops.old (zero_elements object 0 (width_of program.now.families object)) ops.new result }
+    requires { Can O.at O.goes O.halted program.now ops.old
+        (zero_elements object 0 (width_of program.now.families object)) }
+    ensures { RanWent O.at O.goes O.halted ops.old
+        (zero_elements object 0 (width_of program.now.families object)) ops.new result }
 {
     let width = width_at(program, object);
     for element in 0..width {
@@ -40,8 +42,10 @@ fn zero_object<O: Ops>(program: &Program, object: u32, ops: &mut O) -> Went
 }
 
 fn zero_range<O: Ops>(program: &Program, lo: u32, hi: u32, ops: &mut O) -> Went
-    requires { Can O.at O.goes O.halted program.now ops.old (zero_objects (width_of program.now.families) lo (hi - lo)) }
-    ensures { RanWent O.at O.goes O.halted ops.old (zero_objects (width_of program.now.families) lo (hi - lo)) ops.new result }
+    requires { Can O.at O.goes O.halted program.now ops.old
+        (zero_objects (width_of program.now.families) lo (hi - lo)) }
+    ensures { RanWent O.at O.goes O.halted ops.old
+        (zero_objects (width_of program.now.families) lo (hi - lo)) ops.new result }
 {
     for object in lo..hi {
         match zero_object(program, object, ops) {
@@ -53,8 +57,10 @@ fn zero_range<O: Ops>(program: &Program, lo: u32, hi: u32, ops: &mut O) -> Went
 }
 
 fn zero_one<O: Ops>(program: &Program, access: &Access, ops: &mut O) -> Went
-    requires { Can O.at O.goes O.halted program.now ops.old (zero_access (width_of program.now.families) access.now access.now.mode) }
-    ensures { RanWent O.at O.goes O.halted ops.old (zero_access (width_of program.now.families) access.now access.now.mode) ops.new result }
+    requires { Can O.at O.goes O.halted program.now ops.old
+        (zero_access (width_of program.now.families) access.now access.now.mode) }
+    ensures { RanWent O.at O.goes O.halted ops.old
+        (zero_access (width_of program.now.families) access.now access.now.mode) ops.new result }
 {
     match access.mode {
         Mode::W => zero_range(program, access.lo, access.hi, ops),
@@ -64,8 +70,10 @@ fn zero_one<O: Ops>(program: &Program, access: &Access, ops: &mut O) -> Went
 
 /// Stores 0 to each element of each `w` object.
 pub fn zero_each<O: Ops>(program: &Program, accesses: &[Access], ops: &mut O) -> Went
-    requires { Can O.at O.goes O.halted program.now ops.old (zero_all (width_of program.now.families) accesses.now) }
-    ensures { RanWent O.at O.goes O.halted ops.old (zero_all (width_of program.now.families) accesses.now) ops.new result }
+    requires { Can O.at O.goes O.halted program.now ops.old
+        (zero_all (width_of program.now.families) accesses.now) }
+    ensures { RanWent O.at O.goes O.halted ops.old
+        (zero_all (width_of program.now.families) accesses.now) ops.new result }
 {
     for access in accesses {
         match zero_one(program, access, ops) {

@@ -53,7 +53,14 @@ const DEEP: &str =
 const TOO_DEEP: &str =
     "object A of 1 output; task down(int k, cw(add) P) {\nP[0] add= 1; if k > 0 { fork down(k - 1, P); } }\nmain { fork down(32, A); } data";
 
-const TRIALS: [Trial; 8] = [
+// A task of eight accesses, two of them ranges, past the end of its first object, and of its last.
+const PAST_THE_FIRST: &str =
+    "object A of 3; object B of 1; object C of 4; object D of 2; object E of 5; object F[3] of 6; object G[2] of 7; object S of 1 output; task one(x P) { P[5] = 1; } task look(r P) { let n = P[6]; } task last(x P, x S) { S[0] = S[0] * 10 + P[1]; }\ntask all(x P, x Q, w R, cw(add) T, x U, xp V[], rp W[], x Z) {\nP[3] = 1; Q[0] = P[2] + 1; R[3] = Q[0] * 3; T[1] add= 4; U[4] = 5; fork one(V[2]); fork look(W[1]);\nZ[0] = 1; }\nmain { fork all(A, B, C, D, E, F, G, S); fork last(D, S); } data";
+
+const PAST_THE_LAST: &str =
+    "object A of 3; object B of 1; object C of 4; object D of 2; object E of 5; object F[3] of 6; object G[2] of 7; object S of 1 output; task one(x P) { P[5] = 1; } task look(r P) { let n = P[6]; } task last(x P, x S) { S[0] = S[0] * 10 + P[1]; }\ntask all(x P, x Q, w R, cw(add) T, x U, xp V[], rp W[], x Z) {\nP[2] = 1; Q[0] = P[2] + 1; R[3] = Q[0] * 3; T[1] add= 4; U[4] = 5; fork one(V[2]); fork look(W[1]);\nZ[1] = 1; }\nmain { fork all(A, B, C, D, E, F, G, S); fork last(D, S); } data";
+
+const TRIALS: [Trial; 10] = [
     Trial {
         job: TWICE,
         wanted: Wanted::Rows(&[43]),
@@ -93,6 +100,16 @@ const TRIALS: [Trial; 8] = [
         job: TOO_DEEP,
         wanted: Wanted::Fault(&[1; 32], F::F5, 2),
         tasks: 33,
+    },
+    Trial {
+        job: PAST_THE_FIRST,
+        wanted: Wanted::Fault(&[1], F::F2, 3),
+        tasks: 3,
+    },
+    Trial {
+        job: PAST_THE_LAST,
+        wanted: Wanted::Fault(&[1], F::F2, 4),
+        tasks: 5,
     },
 ];
 

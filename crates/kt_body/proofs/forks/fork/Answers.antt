@@ -8,12 +8,12 @@ use Rattle.kt_body.proofs.forks.fork.Goals as goal
 
 pub target_at-requires : goal.target_at-requires
 target_at-requires g c =
-    few_tasks_of _ c.requires.ready.accepted
+    rw c.program.ensures (few_tasks_of _ c.requires.ready.accepted)
 
 pub fork_target-requires-clause-room : goal.fork_target-requires-clause-room
 fork_target-requires-clause-room g c =
-    target_roomy _ c.args.name.now (target_in c.in-Some.target) c.requires.ready.accepted (sym c.in-Some.ensures)
+    target_roomy _ c.args.name.now (target_in c.in-Some.target) c.requires.ready.accepted (sym (rw c.program.ensures at c.in-Some.ensures))
 
 pub returns-in-None : goal.returns-in-None
 returns-in-None g c =
-    ran_same _ _ _ (at_fork _ _ _ _ _ (sym c.in-None.ensures) ∙ astray_is tt)
+    ran_same _ _ _ (at_fork _ _ _ _ _ (sym (rw c.program.ensures at c.in-None.ensures)) ∙ astray_is tt)

@@ -6,25 +6,25 @@ use Rattle.kt_body.proofs.Values.{below, not_below, ran_denied, ran_tested}
 use Rattle.kt_body.specs.declared.ops.Got.TheVariants as got
 use Rattle.kt_body.proofs.writes.load_element.Goals as goal
 
-pub width_at-width-requires : goal.width_at-width-requires
-width_at-width-requires g c = let small : elements_of c.args.program.now.families ≤ ELEMENTS = (can_small _ c.requires).1 in omega arith
+pub width-width-requires : goal.width-width-requires
+width-width-requires g c = let small : elements_of c.args.program.now.families ≤ ELEMENTS = (can_small _ c.requires).1 in omega arith
 
 pub returns-then-i-from : goal.returns-then-i-from
 returns-then-i-from g c =
-    let past : width_of c.args.program.now.families c.args.object ≤ c.args.i = rw (← c.width_at-width.ensures, ← c.from.ensures) c.if-i-from.true in
+    let past : width_of c.args.program.now.families c.args.object ≤ c.args.i = rw (← c.width-width.ensures, ← c.from.ensures) c.if-i-from.true in
     ran_err _ _ (ran_denied _ _ _ _ (not_below _ _ past))
 
 pub load-requires : goal.load-requires
 load-requires g c =
-    let there : c.args.i < width_of c.args.program.now.families c.args.object = rw (← c.width_at-width.ensures, ← c.from.ensures) c.if-i-from.false in
+    let there : c.args.i < width_of c.args.program.now.families c.args.object = rw (← c.width-width.ensures, ← c.from.ensures) c.if-i-from.false in
     can_load _ _ _ _ (can_next _ _ c.requires (ran_tested _ _ _ _ (below _ _ there)))
 
 pub returns-in-Value : goal.returns-in-Value
 returns-in-Value g c =
-    let there : c.args.i < width_of c.args.program.now.families c.args.object = rw (← c.width_at-width.ensures, ← c.from.ensures) c.if-i-from.false in
+    let there : c.args.i < width_of c.args.program.now.families c.args.object = rw (← c.width-width.ensures, ← c.from.ensures) c.if-i-from.false in
     ran_then _ _ (ran_tested _ _ _ _ (below _ _ there)) (ran_load _ _ _ _ _ _ _ (got.Value _) c.in-Value.ensures)
 
 pub returns-in-Halt : goal.returns-in-Halt
 returns-in-Halt g c =
-    let there : c.args.i < width_of c.args.program.now.families c.args.object = rw (← c.width_at-width.ensures, ← c.from.ensures) c.if-i-from.false in
+    let there : c.args.i < width_of c.args.program.now.families c.args.object = rw (← c.width-width.ensures, ← c.from.ensures) c.if-i-from.false in
     ran_then _ _ (ran_tested _ _ _ _ (below _ _ there)) (ran_load _ _ _ _ _ _ _ got.Halt c.in-Halt.ensures)
