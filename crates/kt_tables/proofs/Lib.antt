@@ -1,5 +1,4 @@
 pub mod TablePermutes
-pub mod TableListed
 pub mod TableRows
 pub mod TablePaths
 pub mod LoopShown

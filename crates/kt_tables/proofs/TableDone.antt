@@ -25,6 +25,7 @@ use Rattle.kt_prog.specs.declared.programs.Program.{Program}
 use Rattle.kt_runs.specs.Rights.{rights_in}
 use Rattle.kt_runs.specs.Theorems.{whole_at}
 use Rattle.kt_runs.proofs.Counts.{no_more}
+use Rattle.kt_runs.proofs.PathsListed.{In, in_there}
 use Rattle.kt_tables.specs.Tables.{IndexRow, TaskRow, TaskTable, count_indexes, MainIsFinished}
 use Rattle.kt_tables.specs.TableLaws.{phase_of, phase_of_stand, as_task, as_index, index_or_fresh, by_path, tasks_by_path, shown, fault_left, shown_fault, shown_index_fault, as_row, as_child, runs_in, index_runs_from, index_runs_in, index_faults_from, faults_at, faults_in, IsLawfulTable, TableGivesReference}
 use Rattle.kt_tables.specs.declared.events.Phase.{Phase}
@@ -32,8 +33,7 @@ use Rattle.kt_tables.specs.declared.events.Phase.TheVariants as P
 use Rattle.kt_tables.specs.declared.events.Stand.{Stand}
 use Rattle.kt_tables.specs.declared.events.Stand.TheVariants as S
 use Rattle.kt_tables.proofs.TableRows.{the_some}
-use Rattle.kt_tables.proofs.TablePermutes.{In, in_either, in_get, get_in, in_flat, in_flattened}
-use Rattle.kt_tables.proofs.TableListed.{in_there}
+use Rattle.kt_tables.proofs.TablePermutes.{in_either, in_get, get_in, in_flat, in_flattened}
 use Rattle.kt_faults.specs.Laws.{SameFaultsSameAnswer}
 use Rattle.kt_tables.proofs.LoopShown.{got_less}
 use Rattle.kt_tables.proofs.TableEntries.{lowered, spots_of, child_in, index_entries, row_entries, entries_in, Paths, F, spot_own, spot_child, has_index, spots_to, spots_from, of_rows, permutes}

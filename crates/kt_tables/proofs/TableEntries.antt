@@ -15,10 +15,11 @@ use Rattle.kt_prog.specs.Laws.{BodiesKeep, LoopsAreDirect}
 use Rattle.kt_prog.specs.Accepted.{IsAccepted}
 use Rattle.kt_prog.specs.Reference.{machine_of}
 use Rattle.kt_prog.specs.declared.programs.Program.{Program}
+use Rattle.kt_runs.specs.ByPath.{NoTwice}
 use Rattle.kt_runs.specs.Rights.{rights_in}
+use Rattle.kt_runs.proofs.PathsListed.{In, paths_once, there_in, in_there}
 use Rattle.kt_tables.specs.Tables.{is_child}
-use Rattle.kt_tables.proofs.TablePermutes.{In, NoTwice, in_either, members_permute, in_get, get_in, places_once, in_flat, in_flattened}
-use Rattle.kt_tables.proofs.TableListed.{paths_once, there_in, in_there}
+use Rattle.kt_tables.proofs.TablePermutes.{in_either, members_permute, in_get, get_in, places_once, in_flat, in_flattened}
 use Rattle.kt_tables.specs.Tables.{IndexRow, TaskRow, TaskTable}
 use Rattle.kt_tables.specs.TableLaws.{row_at, has_begun, as_task, as_index, index_or_fresh, index_of_row, task_or_child, tasks_by_path, Leads, IsLawfulTable, Stands, as_row, as_child}
 use Rattle.kt_tables.proofs.TableRows.{the_some, row_found, map_snoc, snoc_same, child_snoc}

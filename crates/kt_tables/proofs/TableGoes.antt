@@ -39,7 +39,6 @@ use Rattle.kt_tables.specs.declared.events.Phase.TheVariants as P
 use Rattle.kt_tables.specs.declared.events.Why.{Why}
 use Rattle.kt_tables.specs.declared.events.Why.TheVariants as W
 use Rattle.kt_tables.specs.declared.events.Stand.TheVariants as S
-use Rattle.kt_tables.proofs.TableListed.{same_or_other}
 use Rattle.kt_tables.proofs.TableRows.{mapped_is}
 use Rattle.kt_tables.proofs.TablePaths.{get_is}
 use Rattle.kt_tables.proofs.TableTests.{unrefused}
@@ -49,6 +48,9 @@ use Rattle.kt_tables.proofs.Full.{begun_by}
 use Rattle.kt_tables.proofs.NextOfLoop.{goes_or_begins, index_goes_on, loop_goes_on}
 use Rattle.kt_tables.proofs.TableDone.{phase_finished}
 use Rattle.kt_tables.proofs.TableNext.{next_of}
+
+same_or_other : (k i : ℕ) → k ≤ i → (k ≡ i) ⊎ (suc k ≤ i)
+same_or_other k i h = grind arith
 
 module _ (m : Machine) where
   -- what Earlier says of each earlier sibling

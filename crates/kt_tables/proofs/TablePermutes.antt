@@ -1,25 +1,19 @@
 -- Two lists of the same members, none of them twice, are permutations of each other, and so are the lists made of their members.
-use Rattle.std.proofs.Common.{◌≡◌, ℕ, zero, suc, List, [], ◌∷◌, ◌++◌, map, Some, ◌⊎◌, inl, inr, refl, sym, ap, subst, ◌∙◌, append_assoc, slice_get}
+use Rattle.std.proofs.Common.{◌≡◌, ℕ, zero, suc, List, [], ◌∷◌, ◌++◌, Some, ◌⊎◌, inl, inr, refl, sym, ap, subst, ◌∙◌, append_assoc, slice_get}
 use Rattle.std.specs.List.{flat_map}
-use Rattle.kt_order.specs.Lists.{SomeOf}
 use Rattle.std.specs.List.Sorted.{IsPermutation}
 use Rattle.std.proofs.lemmas.List.Concat.{flat_map-append}
 use Rattle.std.proofs.lemmas.List.Sorted.{IsPermutation-refl, IsPermutation-append, IsPermutation-append_left, IsPermutation-append_comm, IsPermutation-trans}
-
-abbrev pub In : {X : Type 0} → X → List X → Type 0
-In x ys = SomeOf (λ y. x ≡ y) ys
-
-abbrev pub NoTwice : {X : Type 0} → List X → Type 0
-NoTwice [] = Unit {0}
-NoTwice (x ∷ xs) = (In x xs → ⊥) × NoTwice xs
+use Rattle.kt_runs.specs.ByPath.{NoTwice}
+use Rattle.kt_runs.proofs.PathsListed.{In}
 
 module _ {X : Type 0} where
-  pub in_left : (z : X) (a b : List X) → In z a → In z (a ++ b)
+  in_left : (z : X) (a b : List X) → In z a → In z (a ++ b)
   in_left z [] b h = absurd h
   in_left z (x ∷ a) b (inl e) = inl e
   in_left z (x ∷ a) b (inr h) = inr (in_left z a b h)
 
-  pub in_right : (z : X) (a b : List X) → In z b → In z (a ++ b)
+  in_right : (z : X) (a b : List X) → In z b → In z (a ++ b)
   in_right z [] b h = h
   in_right z (x ∷ a) b h = inr (in_right z a b h)
 
@@ -109,25 +103,6 @@ module _ {X : Type 0} where
     where
       next : {t u : ℕ} → suc t ≡ suc u → t ≡ u
       next e = cc
-
-module _ {X Y : Type 0} (g : X → Y) where
-  pub in_map : (x : X) (xs : List X) → In x xs → In (g x) (map g xs)
-  in_map x [] h = absurd h
-  in_map x (y ∷ ys) (inl e) = inl (ap g e)
-  in_map x (y ∷ ys) (inr h) = inr (in_map x ys h)
-
-  pub in_mapped : (z : Y) (xs : List X) → In z (map g xs) → (x : X) × In x xs × (z ≡ g x)
-  in_mapped z [] h = absurd h
-  in_mapped z (x ∷ xs) (inl e) = (x, inl refl, e)
-  in_mapped z (x ∷ xs) (inr h) = let r = in_mapped z xs h in (r.0, inr r.1, r.2)
-
-  -- where the members have different images
-  pub map_once : (xs : List X) → ((x y : X) → In x xs → In y xs → g x ≡ g y → x ≡ y) → NoTwice xs → NoTwice (map g xs)
-  map_once [] h once = tt
-  map_once (x ∷ xs) h once = (
-    λ i. (let r = in_mapped (g x) xs i in once.0 (subst (λ (w : X). In w xs) (sym (h x r.0 (inl refl) (inr r.1) r.2)) r.1)),
-    map_once xs (λ y z i j e. h y z (inr i) (inr j) e) once.1,
-  )
 
 module _ {X Y : Type 0} (f : X → List Y) where
   pub in_flat : (x : X) (y : Y) (xs : List X) → In x xs → In y (f x) → In y (flat_map f xs)
