@@ -4,7 +4,7 @@ ghost use Rattle.kt_core.specs.Links.{AreDone, first_below, fresh_links, is_in_t
 ghost use Rattle.kt_tables.specs.Tables.{is_open};
 
 use crate::claims::calls_clash;
-use crate::rows::Row;
+use crate::rows::TaskRow;
 use kt_law::NoMemory;
 use kt_prog::Call;
 use std::alloc::Global;
@@ -81,15 +81,15 @@ impl Link {
 }
 
 /// The first of the numbers that is below the bound and that of a task which is not finished.
-pub fn first_open(rows: &[Row], numbers: &[u32], bound: u32) -> Option<u32>
-    requires { All (λ k. k < length rows.now) numbers.now }
-    ensures { result ≡ first_below bound is_open rows.now numbers.now }
+pub fn first_open(tasks: &[TaskRow], numbers: &[u32], bound: u32) -> Option<u32>
+    requires { All (λ k. k < length tasks.now) numbers.now }
+    ensures { result ≡ first_below bound is_open tasks.now numbers.now }
 {
     for number in numbers {
         if *number >= bound {
             return None;
         }
-        if !rows[*number as usize].phase().is_finished() {
+        if !tasks[*number as usize].phase().is_finished() {
             return Some(*number);
         }
     }
@@ -97,15 +97,15 @@ pub fn first_open(rows: &[Row], numbers: &[u32], bound: u32) -> Option<u32>
 }
 
 /// How many of the numbers, the first ones, are those of finished tasks, where so many are known to be.
-pub fn count_settled(rows: &[Row], numbers: &[u32], known: usize) -> usize
-    requires there { All (λ k. k < length rows.now) numbers.now }
+pub fn count_settled(tasks: &[TaskRow], numbers: &[u32], known: usize) -> usize
+    requires there { All (λ k. k < length tasks.now) numbers.now }
     requires within { known ≤ length numbers.now }
-    requires done { AreDone rows.now numbers.now known }
+    requires done { AreDone tasks.now numbers.now known }
     ensures within { result ≤ length numbers.now }
-    ensures done { AreDone rows.now numbers.now result }
+    ensures done { AreDone tasks.now numbers.now result }
 {
     for place in known..numbers.len() {
-        if !rows[numbers[place] as usize].phase().is_finished() {
+        if !tasks[numbers[place] as usize].phase().is_finished() {
             return place;
         }
     }
@@ -113,22 +113,22 @@ pub fn count_settled(rows: &[Row], numbers: &[u32], known: usize) -> usize
 }
 
 /// The first of the numbers that is below the bound and that of a task which is not finished and clashes with the call.
-pub fn first_clash(rows: &[Row], numbers: &[u32], bound: u32, call: &Call) -> Option<u32>
-    requires { All (λ k. k < length rows.now) numbers.now }
-    ensures { result ≡ first_below bound (is_in_the_way call.now) rows.now numbers.now }
+pub fn first_clash(tasks: &[TaskRow], numbers: &[u32], bound: u32, call: &Call) -> Option<u32>
+    requires { All (λ k. k < length tasks.now) numbers.now }
+    ensures { result ≡ first_below bound (is_in_the_way call.now) tasks.now numbers.now }
 {
     for number in numbers {
         if *number >= bound {
             return None;
         }
-        if is_in_the_way(&rows[*number as usize], call) {
+        if is_in_the_way(&tasks[*number as usize], call) {
             return Some(*number);
         }
     }
     None
 }
 
-fn is_in_the_way(row: &Row, call: &Call) -> bool
+fn is_in_the_way(row: &TaskRow, call: &Call) -> bool
     ensures { result ≡ is_in_the_way call.now row.now }
 {
     !row.phase.is_finished() && calls_clash(&row.call, call)
@@ -137,22 +137,23 @@ fn is_in_the_way(row: &Row, call: &Call) -> bool
 /// A task more, as the last child of another. Want of memory changes nothing.
 pub fn add_child(
     alloc: Global,
-    rows: &mut Vec<Row>,
+    tasks: &mut Vec<TaskRow>,
     links: &mut Vec<Link>,
     parent: u32,
-    row: Row,
+    row: TaskRow,
 ) -> Result<(), NoMemory>
     requires there { parent < length links.old.items }
-    requires few { length rows.old.items < 2 ^ 32 }
-    ensures rows { IfOk result (λ _. rows.new.items ≡ rows.old.items ++ row ∷ []) }
-    ensures links { IfOk result (λ _. links.new.items ≡ with_link (length rows.old.items) parent links.old.items) }
-    ensures same_rows { IfErr result (λ _. rows.new.items ≡ rows.old.items) }
+    requires few { length tasks.old.items < 2 ^ 32 }
+    ensures tasks { IfOk result (λ _. tasks.new.items ≡ tasks.old.items ++ row ∷ []) }
+    ensures links { IfOk result (λ _.
+        links.new.items ≡ with_link (length tasks.old.items) parent links.old.items) }
+    ensures same_tasks { IfErr result (λ _. tasks.new.items ≡ tasks.old.items) }
     ensures same_links { IfErr result (λ _. links.new.items ≡ links.old.items) }
 {
-    rows.reserve(1)?;
+    tasks.reserve(1)?;
     links.reserve(1)?;
-    links[parent as usize].add(rows.len() as u32)?;
-    rows.push_reserved(row);
+    links[parent as usize].add(tasks.len() as u32)?;
+    tasks.push_reserved(row);
     links.push_reserved(Link::new(alloc, Some(parent)));
     Ok(())
 }

@@ -16,9 +16,10 @@ use kt_tables::{BodyFault, Phase};
 use std::alloc::Global;
 use std::marker::Model;
 
-/// A task.
+/// A task of a run: its path, call and phase, what its loads found, how many operations it has done, the fault that ended its body,
+/// and its part of a loop.
 #[derive(Drop)]
-pub struct Row {
+pub struct TaskRow {
     pub path: ArrayVec<u32, PATH>,
     pub call: Call,
     pub phase: Phase,
@@ -28,7 +29,7 @@ pub struct Row {
     part: Part,
 }
 
-impl Model for Row {
+impl Model for TaskRow {
     ghost use Rattle.std.specs.Prelude.{option_map};
     ghost use Rattle.kt_tables.specs.Tables.{TaskRow, body_fault};
 
@@ -45,12 +46,12 @@ impl Model for Row {
     } };
 }
 
-impl Row {
+impl TaskRow {
     /// A task that nobody has claimed.
-    pub fn new(alloc: Global, path: ArrayVec<u32, PATH>, call: Call) -> Row
+    pub fn new(alloc: Global, path: ArrayVec<u32, PATH>, call: Call) -> TaskRow
         ensures { result ≡ fresh_row path.items call }
     {
-        Row {
+        TaskRow {
             path,
             call,
             phase: Phase::Unclaimed,
@@ -137,7 +138,8 @@ impl Row {
 
     /// The fault that ended the body of an index, with the path of the loop.
     pub fn index_fault(&self, index: u32) -> Option<FaultAt>
-        ensures { result ≡ fault_of_index self.now.path index (slice_get self.now.loop.indexes index) }
+        ensures { result
+            ≡ fault_of_index self.now.path index (slice_get self.now.loop.indexes index) }
     {
         match self.part.index_fault(index) {
             Some(fault) => Some(FaultAt {

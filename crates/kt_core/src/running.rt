@@ -16,7 +16,7 @@ mod reads;
 mod steps;
 
 use crate::links::{Link, count_settled, first_clash, first_open};
-use crate::rows::Row;
+use crate::rows::TaskRow;
 use arrayvec::ArrayVec;
 use kt_law::NoMemory;
 use kt_prog::{Call, FaultAt, Program};
@@ -33,7 +33,7 @@ pub struct Core<'a> {
     alloc: Global,
     store: PlainStore<'a>,
     input: &'a [u64],
-    rows: Vec<Row>,
+    tasks: Vec<TaskRow>,
     links: Vec<Link>,
 }
 
@@ -63,8 +63,8 @@ impl<'a> Core<'a> {
         ensures { IfOk result (λ core. core ≡ opening_state program.now input.now) }
     {
         let store = PlainStore::open(alloc, program, input)?;
-        let mut rows = Vec::new(alloc);
-        rows.push(Row::new(alloc, ArrayVec::new(), Call::of_main()))?;
+        let mut tasks = Vec::new(alloc);
+        tasks.push(TaskRow::new(alloc, ArrayVec::new(), Call::of_main()))?;
         let mut links = Vec::new(alloc);
         links.push(Link::new(alloc, None))?;
         opening_table_is_lawful();
@@ -72,7 +72,7 @@ impl<'a> Core<'a> {
             alloc,
             store,
             input,
-            rows,
+            tasks,
             links,
         })
     }
@@ -81,14 +81,14 @@ impl<'a> Core<'a> {
     pub fn tasks(&self) -> u32
         ensures { result ≡ length self.now.table.tasks }
     {
-        self.rows.len() as u32
+        self.tasks.len() as u32
     }
 
     pub fn phase(&self, task: u32) -> Phase
         requires { task < length self.now.table.tasks }
         ensures { (r : TaskRow) → slice_get self.now.table.tasks task ≡ Some r → result ≡ r.phase }
     {
-        self.rows[task as usize].phase()
+        self.tasks[task as usize].phase()
     }
 
     /// The elements of all objects, in the order of their numbers.
@@ -109,7 +109,9 @@ impl<'a> Core<'a> {
     pub fn value(&self, object: u32, element: u32) -> u64
         requires object { object < objects_of self.now.program.families }
         requires element { element < width_of self.now.program.families object }
-        ensures { result ≡ answer self.now.program.families (record { object = object; element = element; deed = Load }) self.now.table.store }
+        ensures { result
+            ≡ answer self.now.program.families
+            (record { object = object; element = element; deed = Load }) self.now.table.store }
     {
         self.store.load(object, element)
     }
@@ -117,33 +119,36 @@ impl<'a> Core<'a> {
     /// The call of a task.
     pub fn call(&self, task: u32) -> &Call
         requires { task < length self.now.table.tasks }
-        ensures { (r : TaskRow) → slice_get self.now.table.tasks task ≡ Some r → result.now ≡ r.call }
+        ensures { (r : TaskRow) → slice_get self.now.table.tasks task ≡ Some r
+            → result.now ≡ r.call }
     {
-        &self.rows[task as usize].call
+        &self.tasks[task as usize].call
     }
 
     /// The fault that ended the body of a task.
     pub fn fault(&self, task: u32) -> Option<FaultAt>
         requires { task < length self.now.table.tasks }
-        ensures { (r : TaskRow) → slice_get self.now.table.tasks task ≡ Some r → result ≡ fault_of_row r }
+        ensures { (r : TaskRow) → slice_get self.now.table.tasks task ≡ Some r
+            → result ≡ fault_of_row r }
     {
-        self.rows[task as usize].fault()
+        self.tasks[task as usize].fault()
     }
 
     /// The first child of a task that is not finished.
     pub fn open_child(&self, task: u32) -> Option<u32>
         requires { task < length self.now.table.tasks }
-        ensures { (r : TaskRow) → slice_get self.now.table.tasks task ≡ Some r → result ≡ open_child r self.now.table.tasks }
+        ensures { (r : TaskRow) → slice_get self.now.table.tasks task ≡ Some r
+            → result ≡ open_child r self.now.table.tasks }
     {
         let children = self.links[task as usize].left();
-        first_open(self.rows.as_slice(), children, self.tasks())
+        first_open(self.tasks.as_slice(), children, self.tasks())
     }
 
     /// Every core is lawful. The function does nothing; its contract is the law.
     pub fn is_lawful(&self)
         ensures { IsLawfulState self.now }
     {
-        let _ = &self.rows;
+        let _ = &self.tasks;
     }
 
     /// Where `main` is finished, the store is that of the reference run, and the tasks with what their loads found, the indexes with
@@ -162,7 +167,9 @@ impl<'a> Core<'a> {
     /// The function does nothing; its contract is the law.
     pub fn gives_outcome(&self)
         requires { MainIsFinished self.now.table.tasks }
-        ensures { answered (length self.now.table.tasks) (count_indexes self.now.table.tasks) (faults_in self.now.program self.now.table.tasks) self.now.table.store ≡ outcome_of self.now.program self.now.input }
+        ensures { answered (length self.now.table.tasks) (count_indexes self.now.table.tasks)
+            (faults_in self.now.program self.now.table.tasks) self.now.table.store
+            ≡ outcome_of self.now.program self.now.input }
     {
         self.is_lawful();
         done_table_is_reference();
@@ -170,8 +177,12 @@ impl<'a> Core<'a> {
 
     /// There are no more tasks and no more indexes than in the reference run. The function does nothing; its contract is the law.
     pub fn has_no_more(&self)
-        ensures tasks { length self.now.table.tasks ≤ length (tasks_of self.now.program (reference self.now.program self.now.input).entries) }
-        ensures indexes { count_indexes self.now.table.tasks ≤ length (indexes_of self.now.program (reference self.now.program self.now.input).entries) }
+        ensures tasks { length self.now.table.tasks
+            ≤ length (tasks_of self.now.program
+            (reference self.now.program self.now.input).entries) }
+        ensures indexes { count_indexes self.now.table.tasks
+            ≤ length (indexes_of self.now.program
+            (reference self.now.program self.now.input).entries) }
     {
         self.is_lawful();
         tables_have_no_more();
@@ -181,7 +192,8 @@ impl<'a> Core<'a> {
     fn siblings(&self, task: u32) -> &[u32]
         requires { task < length self.now.table.tasks }
         ensures there { All (λ k. k < length self.now.table.tasks) result.now }
-        ensures alike { (r : TaskRow) → slice_get self.now.table.tasks task ≡ Some r → FindsAlike self.now.table.tasks result.now (siblings_of r self.now.table.tasks) }
+        ensures alike { (r : TaskRow) → slice_get self.now.table.tasks task ≡ Some r
+            → FindsAlike self.now.table.tasks result.now (siblings_of r self.now.table.tasks) }
     {
         match self.links[task as usize].parent() {
             Some(parent) => self.links[parent as usize].left(),
@@ -192,21 +204,23 @@ impl<'a> Core<'a> {
     /// The first task before it in its frame that is not finished.
     fn earlier(&self, task: u32) -> Option<u32>
         requires { task < length self.now.table.tasks }
-        ensures { (r : TaskRow) → slice_get self.now.table.tasks task ≡ Some r → result ≡ open_before task r self.now.table.tasks }
+        ensures { (r : TaskRow) → slice_get self.now.table.tasks task ≡ Some r
+            → result ≡ open_before task r self.now.table.tasks }
     {
-        first_open(self.rows.as_slice(), self.siblings(task), task)
+        first_open(self.tasks.as_slice(), self.siblings(task), task)
     }
 
     /// The first task before it in its frame that is not finished and clashes with it.
     fn clash(&self, task: u32) -> Option<u32>
         requires { task < length self.now.table.tasks }
-        ensures { (r : TaskRow) → slice_get self.now.table.tasks task ≡ Some r → result ≡ clash_before task r self.now.table.tasks }
+        ensures { (r : TaskRow) → slice_get self.now.table.tasks task ≡ Some r
+            → result ≡ clash_before task r self.now.table.tasks }
     {
         first_clash(
-            self.rows.as_slice(),
+            self.tasks.as_slice(),
             self.siblings(task),
             task,
-            &self.rows[task as usize].call,
+            &self.tasks[task as usize].call,
         )
     }
 
@@ -217,7 +231,7 @@ impl<'a> Core<'a> {
         requires stays { StaysFinished task phase self.old.table.tasks }
         ensures { self.new ≡ rephased task phase self.old }
     {
-        self.rows[task as usize].set_phase(phase);
+        self.tasks[task as usize].set_phase(phase);
     }
 
     /// Notes how many of the first children of its parent are finished.
@@ -237,7 +251,7 @@ impl<'a> Core<'a> {
         ensures { self.new ≡ self.old }
     {
         let link = &self.links[task as usize];
-        let settled = count_settled(self.rows.as_slice(), link.children(), link.settled());
+        let settled = count_settled(self.tasks.as_slice(), link.children(), link.settled());
         self.links[task as usize].set_settled(settled);
     }
 }

@@ -12,32 +12,36 @@ impl<'a> Core<'a> {
     /// The pieces of the indexes of a loop that are not taken.
     pub fn pieces(&self, task: u32) -> &[Piece]
         requires { task < length self.now.table.tasks }
-        ensures { (r : TaskRow) → slice_get self.now.table.tasks task ≡ Some r → result.now ≡ r.loop.pieces }
+        ensures { (r : TaskRow) → slice_get self.now.table.tasks task ≡ Some r
+            → result.now ≡ r.loop.pieces }
     {
-        self.rows[task as usize].pieces()
+        self.tasks[task as usize].pieces()
     }
 
     /// Whether an index of a loop is taken and its body has not ended.
     pub fn is_under_way(&self, task: u32, index: u32) -> bool
         requires { task < length self.now.table.tasks }
-        ensures { (r : TaskRow) → slice_get self.now.table.tasks task ≡ Some r → result ≡ is_under_way (slice_get r.loop.indexes index) }
+        ensures { (r : TaskRow) → slice_get self.now.table.tasks task ≡ Some r
+            → result ≡ is_under_way (slice_get r.loop.indexes index) }
     {
-        self.rows[task as usize].is_under_way(index)
+        self.tasks[task as usize].is_under_way(index)
     }
 
     /// How many indexes of a loop have ended that are not retired.
     pub fn ended(&self, task: u32) -> u32
         requires { task < length self.now.table.tasks }
-        ensures { (r : TaskRow) → slice_get self.now.table.tasks task ≡ Some r → result ≡ r.loop.ended }
+        ensures { (r : TaskRow) → slice_get self.now.table.tasks task ≡ Some r
+            → result ≡ r.loop.ended }
     {
-        self.rows[task as usize].ended()
+        self.tasks[task as usize].ended()
     }
 
     /// The fault that ended the body of an index of a loop.
     pub fn index_fault(&self, task: u32, index: u32) -> Option<FaultAt>
         requires { task < length self.now.table.tasks }
-        ensures { (r : TaskRow) → slice_get self.now.table.tasks task ≡ Some r → result ≡ fault_of_index r.path index (slice_get r.loop.indexes index) }
+        ensures { (r : TaskRow) → slice_get self.now.table.tasks task ≡ Some r
+            → result ≡ fault_of_index r.path index (slice_get r.loop.indexes index) }
     {
-        self.rows[task as usize].index_fault(index)
+        self.tasks[task as usize].index_fault(index)
     }
 }

@@ -8,7 +8,7 @@ ghost use Rattle.kt_prog.specs.declared.runs.Operation.TheVariants as operation_
 
 use crate::links::add_child;
 use crate::parts::Part;
-use crate::rows::Row;
+use crate::rows::TaskRow;
 use crate::running::Core;
 use kt_prog::laws::{next_is_on_element, next_is_rightful};
 use kt_prog::{Call, Operation};
@@ -96,7 +96,7 @@ impl<'a> Core<'a> {
         requires closed { IsClosed task self.old.table.tasks }
         ensures { Steps (event_is.Finish task) self.old self.new result }
     {
-        let left = self.rows[task as usize].unretired();
+        let left = self.tasks[task as usize].unretired();
         if left > 0 {
             return Err(Why::Left(left));
         }
@@ -118,10 +118,10 @@ impl<'a> Core<'a> {
             return Err(Why::Found(phase));
         }
         events_keep_states_lawful();
-        let length = self.rows[task as usize].length();
+        let length = self.tasks[task as usize].length();
         match Part::whole(self.alloc, length) {
             Ok(part) => {
-                self.rows[task as usize].begin(part);
+                self.tasks[task as usize].begin(part);
                 Ok(())
             }
             Err(_) => Err(Why::NoMemory),
@@ -136,11 +136,11 @@ impl<'a> Core<'a> {
         if !phase.is_looping() {
             return Err(Why::Found(phase));
         }
-        if !self.rows[task as usize].has_inside(at) {
+        if !self.tasks[task as usize].has_inside(at) {
             return Err(Why::NoPiece);
         }
         events_keep_states_lawful();
-        match self.rows[task as usize].split(at) {
+        match self.tasks[task as usize].split(at) {
             Ok(()) => {}
             Err(_) => return Err(Why::NoMemory),
         }
@@ -155,28 +155,29 @@ impl<'a> Core<'a> {
         if !phase.is_looping() {
             return Err(Why::Found(phase));
         }
-        if count == 0 || !self.rows[task as usize].can_take(at, count) {
+        if count == 0 || !self.tasks[task as usize].can_take(at, count) {
             return Err(Why::NoPiece);
         }
         events_keep_states_lawful();
-        self.rows[task as usize].take(at, count);
+        self.tasks[task as usize].take(at, count);
         Ok(())
     }
 
     fn index(&mut self, task: u32, index: u32, operation: &Operation) -> Result<(), Why>
-        requires { CanAsk self.old.program (event_is.Index task index operation.now) self.old.table }
+        requires { CanAsk self.old.program
+            (event_is.Index task index operation.now) self.old.table }
         ensures { Steps (event_is.Index task index operation.now) self.old self.new result }
     {
         let phase = self.phase(task);
         if !phase.is_looping() {
             return Err(Why::Found(phase));
         }
-        if !self.rows[task as usize].is_under_way(index) {
+        if !self.tasks[task as usize].is_under_way(index) {
             return Err(Why::NotTaken(index));
         }
         events_keep_states_lawful();
         next_is_on_element();
-        match self.rows[task as usize].go_on_index(index, operation) {
+        match self.tasks[task as usize].go_on_index(index, operation) {
             Ok(()) => {
                 act(&mut self.store, operation);
                 Ok(())
@@ -193,12 +194,12 @@ impl<'a> Core<'a> {
         if !phase.is_looping() {
             return Err(Why::Found(phase));
         }
-        let ended = self.rows[task as usize].ended();
+        let ended = self.tasks[task as usize].ended();
         if count == 0 || ended < count {
             return Err(Why::NotEnded(ended));
         }
         events_keep_states_lawful();
-        self.rows[task as usize].retire(count);
+        self.tasks[task as usize].retire(count);
         Ok(())
     }
 }
@@ -230,7 +231,7 @@ impl<'a> Core<'a> {
     {
         events_keep_states_lawful();
         next_is_on_element();
-        match self.rows[task as usize].go_on(operation) {
+        match self.tasks[task as usize].go_on(operation) {
             Ok(()) => {
                 act(&mut self.store, operation);
                 Ok(())
@@ -246,15 +247,15 @@ impl<'a> Core<'a> {
         events_keep_states_lawful();
         next_is_rightful();
         let at = task as usize;
-        if !self.rows[at].can_go_on() {
+        if !self.tasks[at].can_go_on() {
             return Err(Why::NoMemory);
         }
         let number = self.links[at].children().len() as u32 + 1;
-        let path = self.rows[at].child_path(number);
-        let row = Row::new(self.alloc, path, call.copied());
-        match add_child(self.alloc, &mut self.rows, &mut self.links, task, row) {
+        let path = self.tasks[at].child_path(number);
+        let row = TaskRow::new(self.alloc, path, call.copied());
+        match add_child(self.alloc, &mut self.tasks, &mut self.links, task, row) {
             Ok(()) => {
-                self.rows[at].count();
+                self.tasks[at].count();
                 Ok(())
             }
             Err(_) => Err(Why::NoMemory),

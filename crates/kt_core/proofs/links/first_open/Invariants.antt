@@ -4,4 +4,4 @@ use Rattle.kt_core.specs.Links.{first_below}
 use Rattle.kt_core.proofs.links.first_open.Given as goal
 
 abbrev pub invariant-loop-number : goal.invariant-loop-number
-invariant-loop-number l = first_below l.bound is_open l.rows (drop l.number-index l.numbers) ≡ first_below l.bound is_open l.rows l.numbers
+invariant-loop-number l = first_below l.bound is_open l.tasks (drop l.number-index l.numbers) ≡ first_below l.bound is_open l.tasks l.numbers

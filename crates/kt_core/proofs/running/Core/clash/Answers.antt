@@ -20,9 +20,9 @@ returns c = λ r at.
     let tasks = c.args.self.now.table.tasks in
     let rows : c.as_slice.result.now ≡ tasks = c.as_slice.ensures.value ∙ ap (λ (s : CoreState). s.table.tasks) c.self.view_is in
     let within = slice_get_within tasks c.args.task r at in
-    let here : slice_get c.self.inside.rows.items c.args.task ≡ Some r = ap (λ (s : CoreState). slice_get s.table.tasks c.args.task) c.self.view_is ∙ at in
-    let short = slice_get_within c.self.inside.rows.items c.args.task r here in
-    let read = slice_get_read c.self.inside.rows.items (length c.self.inside.rows.items) c.args.task c.index.result.now refl short c.index.ensures in
+    let here : slice_get c.self.inside.tasks.items c.args.task ≡ Some r = ap (λ (s : CoreState). slice_get s.table.tasks c.args.task) c.self.view_is ∙ at in
+    let short = slice_get_within c.self.inside.tasks.items c.args.task r here in
+    let read = slice_get_read c.self.inside.tasks.items (length c.self.inside.tasks.items) c.args.task c.index.result.now refl short c.index.ensures in
     let call : c.behind-self.inside.call ≡ r.call = ap (λ (u : TaskRow). u.call) (c.behind-self.view_is ∙ same_Some c.index.result.now r (sym read ∙ here)) in
     c.first_clash.ensures
     ∙ ap (λ (xs : List TaskRow). first_below c.args.task (is_in_the_way c.behind-self.inside.call) xs c.siblings.result.now) rows

@@ -13,7 +13,7 @@ pub put_phase-requires-clause-lawful : goal.put_phase-requires-clause-lawful
 put_phase-requires-clause-lawful c =
     let now = c.args.self.now in
     let t = c.args.task in
-    let rows = c.self.inside.rows.items in
+    let rows = c.self.inside.tasks.items in
     let same : length rows ≡ length now.table.tasks = ap (λ (s : CoreState). length s.table.tasks) c.self.view_is in
     let few : t < length rows = omega (arith, same, c.requires.can.there) in
     let r = c.index.result.now in
@@ -28,7 +28,7 @@ pub returns : goal.returns
 returns c =
     let now = c.args.self.now in
     let t = c.args.task in
-    let rows = c.self.inside.rows.items in
+    let rows = c.self.inside.tasks.items in
     let same : length rows ≡ length now.table.tasks = ap (λ (s : CoreState). length s.table.tasks) c.self.view_is in
     let few : t < length rows = omega (arith, same, c.requires.can.there) in
     let r = c.index.result.now in

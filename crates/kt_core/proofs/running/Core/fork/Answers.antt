@@ -15,7 +15,7 @@ use Rattle.kt_core.proofs.running.Core.fork.Goals as goal
 pub overflow_cast-number : goal.overflow_cast-number
 overflow_cast-number c =
     let s = seen c.self.inside in
-    let rows = c.self.inside.rows.items in
+    let rows = c.self.inside.tasks.items in
     let links = c.self.inside.links.items in
     let same : length rows ≡ length c.args.self.now.table.tasks = ap (λ (s : CoreState). length s.table.tasks) c.self.view_is in
     let r = c.index.result.now in
@@ -30,7 +30,7 @@ overflow_cast-number c =
 pub overflow_add-number : goal.overflow_add-number
 overflow_add-number c =
     let s = seen c.self.inside in
-    let rows = c.self.inside.rows.items in
+    let rows = c.self.inside.tasks.items in
     let links = c.self.inside.links.items in
     let same : length rows ≡ length c.args.self.now.table.tasks = ap (λ (s : CoreState). length s.table.tasks) c.self.view_is in
     let r = c.index.result.now in
@@ -45,7 +45,7 @@ overflow_add-number c =
 pub child_path-path-requires : goal.child_path-path-requires
 child_path-path-requires c =
     let s = seen c.self.inside in
-    let rows = c.self.inside.rows.items in
+    let rows = c.self.inside.tasks.items in
     let same : length rows ≡ length c.args.self.now.table.tasks = ap (λ (s : CoreState). length s.table.tasks) c.self.view_is in
     let r = c.index-3.result.now in
     let at : slice_get rows c.args.task ≡ Some r = slice_get_read rows (length rows) c.args.task r refl (omega (arith, same, c.requires.can.there)) c.index-3.ensures in
@@ -54,13 +54,13 @@ child_path-path-requires c =
 
 pub count-requires : goal.count-requires
 count-requires c =
-    let rows = c.self.inside.rows.items in
+    let rows = c.self.inside.tasks.items in
     let same : length rows ≡ length c.args.self.now.table.tasks = ap (λ (s : CoreState). length s.table.tasks) c.self.view_is in
     let within : c.args.task < length rows = omega (arith, same, c.requires.can.there) in
     let r = c.index.result.now in
     let at : slice_get rows c.args.task ≡ Some r = slice_get_read rows (length rows) c.args.task r refl within c.index.ensures in
-    let more = c.add_child.new.rows.items in
-    let is : more ≡ rows ++ c.new-row.result ∷ [] = c.in-Ok.ensures.rows in
+    let more = c.add_child.new.tasks.items in
+    let is : more ≡ rows ++ c.new-row.result ∷ [] = c.in-Ok.ensures.tasks in
     let front : slice_get more c.args.task ≡ Some r = ap (λ (xs : List TaskRow). slice_get xs c.args.task) is ∙ get_front rows (c.new-row.result ∷ []) c.args.task within ∙ at in
     let short = slice_get_within more c.args.task r front in
     let again = slice_get_read more (length more) c.args.task c.index_mut.result.now refl short c.index_mut.ensures.value in
@@ -70,7 +70,7 @@ count-requires c =
 pub invariant_of-self : goal.invariant_of-self
 invariant_of-self c =
     let s = seen c.self.inside in
-    let rows = c.self.inside.rows.items in
+    let rows = c.self.inside.tasks.items in
     let links = c.self.inside.links.items in
     let same : length rows ≡ length c.args.self.now.table.tasks = ap (λ (s : CoreState). length s.table.tasks) c.self.view_is in
     let within : c.args.task < length rows = omega (arith, same, c.requires.can.there) in
@@ -82,8 +82,8 @@ invariant_of-self c =
     let l = slice_get_read links (length links) c.args.task c.index-2.result.now refl (omega (arith, within, size)) c.index-2.ensures in
     let children = c.children.ensures ∙ children_by_links rows links c.self.invariant.linked c.args.task c.index-2.result.now l r at in
     let goes = subst (Goes (E.Body c.args.task (O.Fork c.args.call.now))) (sym c.self.view_is) c.requires in
-    let more = c.add_child.new.rows.items in
-    let is : more ≡ rows ++ c.new-row.result ∷ [] = c.in-Ok.ensures.rows in
+    let more = c.add_child.new.tasks.items in
+    let is : more ≡ rows ++ c.new-row.result ∷ [] = c.in-Ok.ensures.tasks in
     let front : slice_get more c.args.task ≡ Some r = ap (λ (xs : List TaskRow). slice_get xs c.args.task) is ∙ get_front rows (c.new-row.result ∷ []) c.args.task within ∙ at in
     let short = slice_get_within more c.args.task r front in
     let again = slice_get_read more (length more) c.args.task c.index_mut.result.now refl short c.index_mut.ensures.value in
@@ -96,7 +96,7 @@ invariant_of-self c =
 pub returns-in-Ok : goal.returns-in-Ok
 returns-in-Ok c =
     let s = seen c.self.inside in
-    let rows = c.self.inside.rows.items in
+    let rows = c.self.inside.tasks.items in
     let links = c.self.inside.links.items in
     let same : length rows ≡ length c.args.self.now.table.tasks = ap (λ (s : CoreState). length s.table.tasks) c.self.view_is in
     let within : c.args.task < length rows = omega (arith, same, c.requires.can.there) in
@@ -107,8 +107,8 @@ returns-in-Ok c =
     let size = links_as_rows rows links c.self.invariant.linked in
     let l = slice_get_read links (length links) c.args.task c.index-2.result.now refl (omega (arith, within, size)) c.index-2.ensures in
     let children = c.children.ensures ∙ children_by_links rows links c.self.invariant.linked c.args.task c.index-2.result.now l r at in
-    let more = c.add_child.new.rows.items in
-    let is : more ≡ rows ++ c.new-row.result ∷ [] = c.in-Ok.ensures.rows in
+    let more = c.add_child.new.tasks.items in
+    let is : more ≡ rows ++ c.new-row.result ∷ [] = c.in-Ok.ensures.tasks in
     let front : slice_get more c.args.task ≡ Some r = ap (λ (xs : List TaskRow). slice_get xs c.args.task) is ∙ get_front rows (c.new-row.result ∷ []) c.args.task within ∙ at in
     let short = slice_get_within more c.args.task r front in
     let again = slice_get_read more (length more) c.args.task c.index_mut.result.now refl short c.index_mut.ensures.value in

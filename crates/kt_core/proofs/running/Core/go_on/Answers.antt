@@ -11,7 +11,7 @@ use Rattle.kt_core.proofs.running.Core.go_on.Goals as goal
 
 pub act-requires : goal.act-requires
 act-requires c =
-    let rows = c.self.inside.rows.items in
+    let rows = c.self.inside.tasks.items in
     let same : length rows ≡ length c.args.self.now.table.tasks = ap (λ (s : CoreState). length s.table.tasks) c.self.view_is in
     let r = c.index_mut.result.now in
     let at : slice_get rows c.args.task ≡ Some r = slice_get_read rows (length rows) c.args.task r refl (omega (arith, same, c.requires.goes.can.there)) c.index_mut.ensures.value in
@@ -20,7 +20,7 @@ act-requires c =
 
 pub invariant_of-self : goal.invariant_of-self
 invariant_of-self c =
-    let rows = c.self.inside.rows.items in
+    let rows = c.self.inside.tasks.items in
     let same : length rows ≡ length c.args.self.now.table.tasks = ap (λ (s : CoreState). length s.table.tasks) c.self.view_is in
     let r = c.index_mut.result.now in
     let at : slice_get rows c.args.task ≡ Some r = slice_get_read rows (length rows) c.args.task r refl (omega (arith, same, c.requires.goes.can.there)) c.index_mut.ensures.value in
@@ -30,7 +30,7 @@ invariant_of-self c =
 
 pub returns-in-Ok : goal.returns-in-Ok
 returns-in-Ok c =
-    let rows = c.self.inside.rows.items in
+    let rows = c.self.inside.tasks.items in
     let same : length rows ≡ length c.args.self.now.table.tasks = ap (λ (s : CoreState). length s.table.tasks) c.self.view_is in
     let r = c.index_mut.result.now in
     let at : slice_get rows c.args.task ≡ Some r = slice_get_read rows (length rows) c.args.task r refl (omega (arith, same, c.requires.goes.can.there)) c.index_mut.ensures.value in

@@ -11,7 +11,7 @@ invariant_of-result c =
     let row : c.new-2.result ≡ fresh_row [] main_call =
     c.new-2.ensures ∙ ap (λ (q : List ℕ). fresh_row q c.of_main.result) c.new.ensures ∙ ap (fresh_row []) c.of_main.ensures in
     let rows : c.push.new.self.items ≡ fresh_row [] main_call ∷ [] =
-    c.in_ok-push.ensures.items ∙ ap (λ (xs : List TaskRow). xs ++ c.new-2.result ∷ []) c.new-rows.ensures.items ∙ ap (λ (r : TaskRow). r ∷ []) row in
+    c.in_ok-push.ensures.items ∙ ap (λ (xs : List TaskRow). xs ++ c.new-2.result ∷ []) c.new-tasks.ensures.items ∙ ap (λ (r : TaskRow). r ∷ []) row in
     let links : c.push-2.new.self.items ≡ fresh_links None ∷ [] =
     c.in_ok-push-2.ensures.items ∙ ap (λ (xs : List LinkState). xs ++ c.new-3.result ∷ []) c.new-links.ensures.items ∙ ap (λ (l : LinkState). l ∷ []) c.new-3.ensures in
     let is = opened_is c.args.program.now c.args.input.now c.in_ok-store.store c.push.new.self.items c.in_ok-store.ensures rows in
@@ -24,5 +24,5 @@ returns c =
     let row : c.new-2.result ≡ fresh_row [] main_call =
     c.new-2.ensures ∙ ap (λ (q : List ℕ). fresh_row q c.of_main.result) c.new.ensures ∙ ap (fresh_row []) c.of_main.ensures in
     let rows : c.push.new.self.items ≡ fresh_row [] main_call ∷ [] =
-    c.in_ok-push.ensures.items ∙ ap (λ (xs : List TaskRow). xs ++ c.new-2.result ∷ []) c.new-rows.ensures.items ∙ ap (λ (r : TaskRow). r ∷ []) row in
+    c.in_ok-push.ensures.items ∙ ap (λ (xs : List TaskRow). xs ++ c.new-2.result ∷ []) c.new-tasks.ensures.items ∙ ap (λ (r : TaskRow). r ∷ []) row in
     opened_is c.args.program.now c.args.input.now c.in_ok-store.store c.push.new.self.items c.in_ok-store.ensures rows

@@ -13,7 +13,7 @@ use Rattle.kt_core.proofs.running.Core.open_child.Goals as goal
 
 pub left-children-requires : goal.left-children-requires
 left-children-requires c =
-    let rows = c.self.inside.rows.items in
+    let rows = c.self.inside.tasks.items in
     let links = c.self.inside.links.items in
     let size = links_as_rows rows links c.self.invariant.linked in
     let same : length rows ≡ length c.args.self.now.table.tasks = ap (λ (s : CoreState). length s.table.tasks) c.self.view_is in
@@ -23,7 +23,7 @@ left-children-requires c =
 
 pub first_open-requires : goal.first_open-requires
 first_open-requires c =
-    let rows = c.self.inside.rows.items in
+    let rows = c.self.inside.tasks.items in
     let links = c.self.inside.links.items in
     let size = links_as_rows rows links c.self.invariant.linked in
     let same : length rows ≡ length c.args.self.now.table.tasks = ap (λ (s : CoreState). length s.table.tasks) c.self.view_is in
@@ -38,7 +38,7 @@ first_open-requires c =
 
 pub returns : goal.returns
 returns c =
-    let rows = c.self.inside.rows.items in
+    let rows = c.self.inside.tasks.items in
     let links = c.self.inside.links.items in
     let size = links_as_rows rows links c.self.invariant.linked in
     let same : length rows ≡ length c.args.self.now.table.tasks = ap (λ (s : CoreState). length s.table.tasks) c.self.view_is in

@@ -7,7 +7,7 @@ use Rattle.kt_core.proofs.running.Core.settle.Goals as goal
 
 pub settle_children-requires : goal.settle_children-requires
 settle_children-requires c =
-    let rows = c.self.inside.rows.items in
+    let rows = c.self.inside.tasks.items in
     let links = c.self.inside.links.items in
     let size = links_as_rows rows links c.self.invariant.linked in
     let same : length rows ≡ length c.args.self.now.table.tasks = ap (λ (s : CoreState). length s.table.tasks) c.self.view_is in

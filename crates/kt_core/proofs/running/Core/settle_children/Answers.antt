@@ -12,7 +12,7 @@ use Rattle.kt_core.proofs.running.Core.settle_children.Goals as goal
 
 pub count_settled-settled-requires-clause-there : goal.count_settled-settled-requires-clause-there
 count_settled-settled-requires-clause-there c =
-    let rows = c.self.inside.rows.items in
+    let rows = c.self.inside.tasks.items in
     let links = c.self.inside.links.items in
     let size = links_as_rows rows links c.self.invariant.linked in
     let same : length rows ≡ length c.args.self.now.table.tasks = ap (λ (s : CoreState). length s.table.tasks) c.self.view_is in
@@ -25,7 +25,7 @@ count_settled-settled-requires-clause-there c =
 
 pub count_settled-settled-requires-clause-within : goal.count_settled-settled-requires-clause-within
 count_settled-settled-requires-clause-within c =
-    let rows = c.self.inside.rows.items in
+    let rows = c.self.inside.tasks.items in
     let links = c.self.inside.links.items in
     let size = links_as_rows rows links c.self.invariant.linked in
     let same : length rows ≡ length c.args.self.now.table.tasks = ap (λ (s : CoreState). length s.table.tasks) c.self.view_is in
@@ -37,7 +37,7 @@ count_settled-settled-requires-clause-within c =
 
 pub count_settled-settled-requires-clause-done : goal.count_settled-settled-requires-clause-done
 count_settled-settled-requires-clause-done c =
-    let rows = c.self.inside.rows.items in
+    let rows = c.self.inside.tasks.items in
     let links = c.self.inside.links.items in
     let size = links_as_rows rows links c.self.invariant.linked in
     let same : length rows ≡ length c.args.self.now.table.tasks = ap (λ (s : CoreState). length s.table.tasks) c.self.view_is in
@@ -50,7 +50,7 @@ count_settled-settled-requires-clause-done c =
 
 pub invariant_of-self : goal.invariant_of-self
 invariant_of-self c =
-    let rows = c.self.inside.rows.items in
+    let rows = c.self.inside.tasks.items in
     let links = c.self.inside.links.items in
     let size = links_as_rows rows links c.self.invariant.linked in
     let same : length rows ≡ length c.args.self.now.table.tasks = ap (λ (s : CoreState). length s.table.tasks) c.self.view_is in

@@ -11,7 +11,7 @@ use Rattle.kt_core.proofs.running.Core.siblings.Goals as goal
 
 pub index-requires-in-Some : goal.index-requires-in-Some
 index-requires-in-Some c =
-    let rows = c.self.inside.rows.items in
+    let rows = c.self.inside.tasks.items in
     let links = c.self.inside.links.items in
     let size = links_as_rows rows links c.self.invariant.linked in
     let same : length rows ≡ length c.args.self.now.table.tasks = ap (λ (s : CoreState). length s.table.tasks) c.self.view_is in
@@ -22,7 +22,7 @@ index-requires-in-Some c =
 
 pub left-requires : goal.left-requires
 left-requires c =
-    let rows = c.self.inside.rows.items in
+    let rows = c.self.inside.tasks.items in
     let links = c.self.inside.links.items in
     let size = links_as_rows rows links c.self.invariant.linked in
     let same : length rows ≡ length c.args.self.now.table.tasks = ap (λ (s : CoreState). length s.table.tasks) c.self.view_is in
@@ -34,7 +34,7 @@ left-requires c =
 
 pub returns-in-Some-clause-there : goal.returns-in-Some-clause-there
 returns-in-Some-clause-there c =
-    let rows = c.self.inside.rows.items in
+    let rows = c.self.inside.tasks.items in
     let links = c.self.inside.links.items in
     let size = links_as_rows rows links c.self.invariant.linked in
     let same : length rows ≡ length c.args.self.now.table.tasks = ap (λ (s : CoreState). length s.table.tasks) c.self.view_is in
@@ -49,7 +49,7 @@ returns-in-Some-clause-there c =
 
 pub returns-in-Some-clause-alike : goal.returns-in-Some-clause-alike
 returns-in-Some-clause-alike c =
-    let rows = c.self.inside.rows.items in
+    let rows = c.self.inside.tasks.items in
     let links = c.self.inside.links.items in
     let size = links_as_rows rows links c.self.invariant.linked in
     let same : length rows ≡ length c.args.self.now.table.tasks = ap (λ (s : CoreState). length s.table.tasks) c.self.view_is in
@@ -68,7 +68,7 @@ returns-in-Some-clause-alike c =
 
 pub returns-in-None-clause-alike : goal.returns-in-None-clause-alike
 returns-in-None-clause-alike c =
-    let rows = c.self.inside.rows.items in
+    let rows = c.self.inside.tasks.items in
     let links = c.self.inside.links.items in
     let size = links_as_rows rows links c.self.invariant.linked in
     let same : length rows ≡ length c.args.self.now.table.tasks = ap (λ (s : CoreState). length s.table.tasks) c.self.view_is in
