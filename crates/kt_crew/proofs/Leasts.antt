@@ -1,10 +1,8 @@
 -- The faults that workers met, and the least of them.
-use Rattle.std.proofs.Common.{◌≡◌, ◌<◌, ◌≤◌, ◌&&◌, nat_eq, ℕ, zero, suc, true, List, [], ◌∷◌, ◌++◌, map, length, Option, Some, None, ◌⊎◌, inl, inr, append_assoc, slice_index_or, refl, sym, ap, ◌∙◌, subst, arith}
+use Rattle.std.proofs.Common.{◌≡◌, ◌<◌, ◌≤◌, ℕ, zero, suc, List, [], ◌∷◌, ◌++◌, append-nil, map, length, Option, Some, None, ◌⊎◌, inl, inr, append_assoc, slice_index_or, refl, sym, ap, ◌∙◌, subst, arith}
 use Rattle.std.specs.List.{flat_map}
 use Rattle.std.specs.List.Sorted.{IsPermutation}
-use Rattle.std.proofs.lemmas.Bool.Decides.{nat_tests}
 use Rattle.std.proofs.lemmas.List.Sorted.{All-permutation, IsPermutation-sym}
-use Rattle.kt_order.specs.Paths.{same_path}
 use Rattle.kt_order.specs.Sequential.{Entry}
 use Rattle.kt_prog.specs.Calls.{index_of}
 use Rattle.kt_prog.specs.Entries.{faults_of, fault_in}
@@ -18,19 +16,17 @@ use Rattle.kt_runs.specs.ByPath.{Path}
 use Rattle.kt_rule.specs.declared.views.Setup.{Setup}
 use Rattle.kt_rule.specs.declared.views.Execution.{Execution}
 use Rattle.kt_rule.specs.declared.views.IndexRun.{IndexRun}
-use Rattle.kt_rule.specs.declared.views.View.{View}
 use Rattle.kt_rule.specs.Close.{run_entry, index_entry}
-use Rattle.kt_rule.specs.Lists.{times, weigh, one_if, In, here, there}
+use Rattle.kt_rule.specs.Lists.{times, In, here, there}
 use Rattle.kt_rule.specs.LoopFacts.{index_times}
 use Rattle.kt_rule.specs.Views.{path_of}
-use Rattle.kt_rule.proofs.Puts.{same_self}
-use Rattle.kt_rule.proofs.Sums.{one_self}
+use Rattle.kt_rule.proofs.Sums.{among, in_append, in_left, in_map, in_right, one_self}
+use Rattle.kt_steps.proofs.Telling.{the_some}
+use Rattle.kt_pieces.proofs.Ended.{index_some, one_here}
 use Rattle.kt_intervals.specs.Faults.{task_faults, index_faults, faults_met}
+use Rattle.kt_intervals.proofs.Faults.{among_either}
 use Rattle.kt_crew.specs.declared.jobs.Done.{Done}
 use Rattle.kt_crew.specs.Ends.{first_with}
-
-the_some : {X : Type 0} → {x y : X} → Some x ≡ Some y → x ≡ y
-the_some h = cc
 
 -- those of all workers
 abbrev pub met_by : Setup → List Done → List FaultRun
@@ -40,41 +36,13 @@ met_by j (d ∷ done) = faults_met j d.seat.token.me.0 ++ met_by j done
 -- each worker kept the least fault of its own, so the first of these is that of all
 pub first_of_all : EarlierIsFirst → (j : Setup) (done : List Done) (least : Option FaultRun) (fs : List FaultRun) → IsFirst least fs
     → ((d : Done) → In d done → IsFirst d.fault (faults_met j d.seat.token.me.0)) → IsFirst (first_with least done) (fs ++ met_by j done)
-first_of_all law j [] least fs first each = subst (IsFirst least) (sym (append_nothing fs)) first
-  where
-    append_nothing : (xs : List FaultRun) → xs ++ [] ≡ xs
-    append_nothing [] = refl
-    append_nothing (x ∷ xs) = ap (λ zs. x ∷ zs) (append_nothing xs)
+first_of_all law j [] least fs first each = subst (IsFirst least) (sym (append-nil fs)) first
 first_of_all law j (d ∷ done) least fs first each =
     let own = faults_met j d.seat.token.me.0 in
     subst (IsFirst (first_with (earlier least d.fault) done)) (append_assoc fs own (met_by j done))
     (first_of_all law j done (earlier least d.fault) (fs ++ own) (law least d.fault fs own first (each d here)) (λ x i. each x (there i)))
 
 -- MEMBERS
-
-among_either : (f : FaultRun) (fs gs : List FaultRun) → IsAmong f (fs ++ gs) → IsAmong f fs ⊎ IsAmong f gs
-among_either f [] gs h = inr h
-among_either f (x ∷ fs) gs (inl e) = inl (inl e)
-among_either f (x ∷ fs) gs (inr h) = elim (among_either f fs gs h) [ inl a ↦ inl (inr a) | inr b ↦ inr b ]
-
-in_left : {A : Type 0} (x : A) (xs ys : List A) → In x xs → In x (xs ++ ys)
-in_left x [] ys i = elim i [ ]
-in_left x (z ∷ xs) ys here = here
-in_left x (z ∷ xs) ys (there i) = there (in_left x xs ys i)
-
-in_right : {A : Type 0} (x : A) (xs ys : List A) → In x ys → In x (xs ++ ys)
-in_right x [] ys i = i
-in_right x (z ∷ xs) ys i = there (in_right x xs ys i)
-
-in_either : {A : Type 0} (x : A) (xs ys : List A) → In x (xs ++ ys) → In x xs ⊎ In x ys
-in_either x [] ys i = inr i
-in_either x (z ∷ xs) ys here = inl here
-in_either x (z ∷ xs) ys (there i) = elim (in_either x xs ys i) [ inl a ↦ inl (there a) | inr b ↦ inr b ]
-
-in_map : {A B : Type 0} (f : A → B) (x : A) (xs : List A) → In x xs → In (f x) (map f xs)
-in_map f x [] i = elim i [ ]
-in_map f x (z ∷ xs) here = here
-in_map f x (z ∷ xs) (there i) = there (in_map f x xs i)
 
 of_map : {A B : Type 0} (f : A → B) (y : B) (xs : List A) → In y (map f xs) → (x : A) × In x xs × (y ≡ f x)
 of_map f y [] i = elim i [ ]
@@ -128,9 +96,9 @@ met_by_one j f ran retired h = elim (among_either f (task_faults j ran) (index_f
 one_met : (j : Setup) (f : FaultRun) (ran : List Execution) (retired : List IndexRun) → IsMet j f ran retired
     → IsAmong f (task_faults j ran ++ index_faults j retired)
 one_met j f ran retired (inl (e, i, h)) = among_left f (task_faults j ran) (index_faults j retired)
-    (among_met j f (map (run_entry j) ran) (run_entry j e) (in_map (run_entry j) e ran i) h)
+    (among_met j f (map (run_entry j) ran) (run_entry j e) (in_map (run_entry j) ran e i) h)
 one_met j f ran retired (inr (e, i, h)) = among_right f (task_faults j ran) (index_faults j retired)
-    (among_met j f (map (index_entry j) retired) (index_entry j e) (in_map (index_entry j) e retired i) h)
+    (among_met j f (map (index_entry j) retired) (index_entry j e) (in_map (index_entry j) retired e i) h)
 
 among_met_by : (j : Setup) (done : List Done) (f : FaultRun) → IsAmong f (met_by j done) → IsMet j f (ran_by done) (retired_by done)
 among_met_by j [] f h = absurd h
@@ -140,22 +108,22 @@ among_met_by j (d ∷ done) f h = elim (among_either f (faults_met j d.seat.toke
 ]
   where
     widen : IsMet j f d.seat.token.me.0.tasks.ran d.seat.token.me.0.loops.retired → IsMet j f (ran_by (d ∷ done)) (retired_by (d ∷ done))
-    widen (inl (e, i, k)) = inl (e, in_left e d.seat.token.me.0.tasks.ran (ran_by done) i, k)
-    widen (inr (e, i, k)) = inr (e, in_left e d.seat.token.me.0.loops.retired (retired_by done) i, k)
+    widen (inl (e, i, k)) = inl (e, in_left d.seat.token.me.0.tasks.ran (ran_by done) e i, k)
+    widen (inr (e, i, k)) = inr (e, in_left d.seat.token.me.0.loops.retired (retired_by done) e i, k)
 
     behind : IsMet j f (ran_by done) (retired_by done) → IsMet j f (ran_by (d ∷ done)) (retired_by (d ∷ done))
-    behind (inl (e, i, k)) = inl (e, in_right e d.seat.token.me.0.tasks.ran (ran_by done) i, k)
-    behind (inr (e, i, k)) = inr (e, in_right e d.seat.token.me.0.loops.retired (retired_by done) i, k)
+    behind (inl (e, i, k)) = inl (e, in_right d.seat.token.me.0.tasks.ran (ran_by done) e i, k)
+    behind (inr (e, i, k)) = inr (e, in_right d.seat.token.me.0.loops.retired (retired_by done) e i, k)
 
 met_by_among : (j : Setup) (done : List Done) (f : FaultRun) → IsMet j f (ran_by done) (retired_by done) → IsAmong f (met_by j done)
 met_by_among j [] f (inl (e, i, k)) = elim i [ ]
 met_by_among j [] f (inr (e, i, k)) = elim i [ ]
-met_by_among j (d ∷ done) f (inl (e, i, k)) = elim (in_either e d.seat.token.me.0.tasks.ran (ran_by done) i) [
+met_by_among j (d ∷ done) f (inl (e, i, k)) = elim (in_append d.seat.token.me.0.tasks.ran (ran_by done) e i) [
   | inl a ↦ among_left f (faults_met j d.seat.token.me.0) (met_by j done)
       (one_met j f d.seat.token.me.0.tasks.ran d.seat.token.me.0.loops.retired (inl (e, a, k)))
   | inr b ↦ among_right f (faults_met j d.seat.token.me.0) (met_by j done) (met_by_among j done f (inl (e, b, k)))
 ]
-met_by_among j (d ∷ done) f (inr (e, i, k)) = elim (in_either e d.seat.token.me.0.loops.retired (retired_by done) i) [
+met_by_among j (d ∷ done) f (inr (e, i, k)) = elim (in_append d.seat.token.me.0.loops.retired (retired_by done) e i) [
   | inl a ↦ among_left f (faults_met j d.seat.token.me.0) (met_by j done)
       (one_met j f d.seat.token.me.0.tasks.ran d.seat.token.me.0.loops.retired (inr (e, a, k)))
   | inr b ↦ among_right f (faults_met j d.seat.token.me.0) (met_by j done) (met_by_among j done f (inr (e, b, k)))
@@ -181,7 +149,7 @@ among_permuted xs ys same = all_among (λ g. IsAmong g ys) xs
 -- the faults of two lists of entries are those of both
 split_faults : (j : Setup) (f : FaultRun) (xs ys : Entries j) → IsAmong f (faults_of j.program (xs ++ ys))
     → IsAmong f (faults_of j.program xs ++ faults_of j.program ys)
-split_faults j f xs ys h = let r = met_in j f (xs ++ ys) h in elim (in_either r.0 xs ys r.1) [
+split_faults j f xs ys h = let r = met_in j f (xs ++ ys) h in elim (in_append xs ys r.0 r.1) [
   | inl a ↦ among_left f (faults_of j.program xs) (faults_of j.program ys) (among_met j f xs r.0 a r.2)
   | inr b ↦ among_right f (faults_of j.program xs) (faults_of j.program ys) (among_met j f ys r.0 b r.2)
 ]
@@ -189,8 +157,8 @@ split_faults j f xs ys h = let r = met_in j f (xs ++ ys) h in elim (in_either r.
 joined_faults : (j : Setup) (f : FaultRun) (xs ys : Entries j) → IsAmong f (faults_of j.program xs ++ faults_of j.program ys)
     → IsAmong f (faults_of j.program (xs ++ ys))
 joined_faults j f xs ys h = elim (among_either f (faults_of j.program xs) (faults_of j.program ys) h) [
-  | inl a ↦ (let r = met_in j f xs a in among_met j f (xs ++ ys) r.0 (in_left r.0 xs ys r.1) r.2)
-  | inr b ↦ (let r = met_in j f ys b in among_met j f (xs ++ ys) r.0 (in_right r.0 xs ys r.1) r.2)
+  | inl a ↦ (let r = met_in j f xs a in among_met j f (xs ++ ys) r.0 (in_left xs ys r.0 r.1) r.2)
+  | inr b ↦ (let r = met_in j f ys b in among_met j f (xs ++ ys) r.0 (in_right xs ys r.0 r.1) r.2)
 ]
 
 abbrev faults_in : Setup → List Execution → List IndexRun → List FaultRun
@@ -212,9 +180,7 @@ same_faults j done ran retired faults tasks indexes same f = (
 -- ONE AT EACH PATH AND INDEX
 
 some_there : (p : Path) (es : List Execution) (e : Execution) → In e es → path_of e ≡ p → 0 < times p (map path_of es)
-some_there p [] e i h = elim i [ ]
-some_there p (x ∷ es) e here h = let a = one_self p (path_of e) h in omega arith
-some_there p (x ∷ es) e (there i) h = let a = some_there p es e i h in omega arith
+some_there p es e i h = subst (λ (q : Path). 0 < times q (map path_of es)) h (among path_of es e i)
 
 once_in : (p : Path) (es : List Execution) → times p (map path_of es) ≤ 1 → (e f : Execution) → In e es → In f es → path_of e ≡ p → path_of f ≡ p → e ≡ f
 once_in p [] few e f i k g h = elim i [ ]
@@ -225,28 +191,17 @@ once_in p (x ∷ es) few e f (there i) here g h =
     let a = one_self p (path_of f) h in let b = some_there p es e i g in absurd (omega arith)
 once_in p (x ∷ es) few e f (there i) (there k) g h = once_in p es (omega arith) e f i k g h
 
--- an index stands where it is counted
-self_counts : (p : Path) (i : ℕ) (e : IndexRun) → e.spot.path ≡ p → e.index ≡ i → one_if (same_path p e.spot.path && nat_eq i e.index) ≡ 1
-self_counts p i e path index =
-    ap (λ (q : Path). one_if (same_path p q && nat_eq i e.index)) path ∙ (ap (λ b. one_if (b && nat_eq i e.index)) (same_self p)
-    ∙ (ap (λ (n : ℕ). one_if (nat_eq i n)) index ∙ ap one_if (nat_same i)))
-  where
-    nat_same : (n : ℕ) → nat_eq n n ≡ true
-    nat_same n = grind (arith, nat_tests)
-
-index_there : (p : Path) (i : ℕ) (es : List IndexRun) (e : IndexRun) → In e es → e.spot.path ≡ p → e.index ≡ i → 0 < index_times p i es
-index_there p i [] e is path index = elim is [ ]
-index_there p i (x ∷ es) e here path index = let a = self_counts p i e path index in omega arith
-index_there p i (x ∷ es) e (there is) path index = let a = index_there p i es e is path index in omega arith
+index_there : (p : Path) (i : ℕ) (es : List IndexRun) (e : IndexRun) → In e es → e.spot.path ≡ p → e.index ≡ i → 1 ≤ index_times p i es
+index_there p i es e is path index = subst (λ (n : ℕ). 1 ≤ index_times p n es) index (index_some p es e is path)
 
 index_once : (p : Path) (i : ℕ) (es : List IndexRun) → index_times p i es ≤ 1 → (e f : IndexRun) → In e es → In f es
     → e.spot.path ≡ p → e.index ≡ i → f.spot.path ≡ p → f.index ≡ i → e ≡ f
 index_once p i [] few e f is ks a b c d = elim is [ ]
 index_once p i (x ∷ es) few e f here here a b c d = refl
 index_once p i (x ∷ es) few e f here (there ks) a b c d =
-    let n = self_counts p i e a b in let m = index_there p i es f ks c d in absurd (omega arith)
+    let n = one_here p i e a (sym b) in let m = index_there p i es f ks c d in absurd (omega arith)
 index_once p i (x ∷ es) few e f (there is) here a b c d =
-    let n = self_counts p i f c d in let m = index_there p i es e is a b in absurd (omega arith)
+    let n = one_here p i f c (sym d) in let m = index_there p i es e is a b in absurd (omega arith)
 index_once p i (x ∷ es) few e f (there is) (there ks) a b c d = index_once p i es (omega arith) e f is ks a b c d
 
 suc_is : (m n : ℕ) → suc m ≡ suc n → m ≡ n

@@ -53,8 +53,10 @@ fn work_at<H: Home, R: Wait, G: Gate>(
     job: Job,
 ) -> Done
     requires home { H.table ≡ Some table.now.table.shared.table_id }
-    requires job { (j : Setup) × (k : _) × IsRun j program.now × IsJobOf j table.now program.now k job }
-    ensures done { (j : Setup) (k : _) → IsJobOf j table.now program.now k job → IsDoneBy j table.now program.now k result }
+    requires job { (j : Setup) × (k : _) × IsRun j program.now
+        × IsJobOf j table.now program.now k job }
+    ensures done { (j : Setup) (k : _) → IsJobOf j table.now program.now k job
+        → IsDoneBy j table.now program.now k result }
 {
     let Job { seat, mut scratch } = job;
     let hand: Hand<H> = Hand {
@@ -78,7 +80,8 @@ fn work_on<R: Wait, G: Gate>(
     job: Job,
 ) -> Done
     requires { (j : Setup) × (k : _) × IsRun j program.now × IsJobOf j table.now program.now k job }
-    ensures { (j : Setup) (k : _) → IsJobOf j table.now program.now k job → IsDoneBy j table.now program.now k result }
+    ensures { (j : Setup) (k : _) → IsJobOf j table.now program.now k job
+        → IsDoneBy j table.now program.now k result }
 {
     work_at::<Brand, R, G>(rt, table, program, gate, job)
 }
@@ -101,11 +104,14 @@ fn send_out<R: Threads + Wait + Sync, G: Gate + Sync>(
     jobs: Vec<Job>,
 ) -> Result<Vec<Done>, NoMemory>
     requires { (j : Setup) × IsRun j program.now × AreJobs j table.now program.now jobs.items }
-    ensures { IfOk result (λ done. (j : Setup) → AreJobs j table.now program.now jobs.items → AreDone j table.now program.now done.items) }
+    ensures { IfOk result (λ done. (j : Setup) → AreJobs j table.now program.now jobs.items
+        → AreDone j table.now program.now done.items) }
 {
     let one = |job: Job| -> Done
-        requires { (j : Setup) × (k : _) × IsRun j program.now × IsJobOf j table.now program.now k job }
-        ensures { (j : Setup) (k : _) → IsJobOf j table.entry.now program.entry.now k job → IsDoneBy j table.entry.now program.entry.now k result }
+        requires { (j : Setup) × (k : _) × IsRun j program.now
+            × IsJobOf j table.now program.now k job }
+        ensures { (j : Setup) (k : _) → IsJobOf j table.entry.now program.entry.now k job
+            → IsDoneBy j table.entry.now program.entry.now k result }
     { work_on(rt, table, program, gate, job) };
     let done = thread::map_vec(rt, turned_round(jobs), &one)?;
     Ok(turned_round(done))
@@ -169,9 +175,11 @@ pub fn run_all<R: Threads + Wait + Sync, G: Gate + Sync>(
     requires few { workers ≤ WORKERS }
     ensures ran { IfOk result (λ x. x.0 ≡ outcome_of program.now input.now) }
     ensures workers { IfOk result (λ x. workers_of x.1 ≡ workers) }
-    ensures rows { IfOk result (λ x. (rows : List ℕ) → x.0.outcome ≡ Rows rows → length rows ≡ elements_of program.now.families) }
+    ensures rows { IfOk result (λ x. (rows : List ℕ) → x.0.outcome ≡ Rows rows
+        → length rows ≡ elements_of program.now.families) }
     ensures limit { IfOk result (λ x. (limit_of x.1 ≡ true) ↔ (x.0.outcome ≡ Limit)) }
-    ensures once { IfOk result (λ x. x.0.outcome ≢ Limit → IsExact (setup_of program.now input.now workers) (joined_view x.1)) }
+    ensures once { IfOk result (λ x. x.0.outcome ≢ Limit
+        → IsExact (setup_of program.now input.now workers) (joined_view x.1)) }
 {
     earlier_is_first();
     first_is_answer();
