@@ -33,7 +33,8 @@ fn zero(program: &Program, call: &Call, owner: &mut Owner)
 /// Runs the body of one index.
 fn run_at(program: &Program, call: &Call, index: u32, owner: &mut Owner) -> Ended
     requires { Begins stands_at Moves never program.now (Index call.now index) owner.old }
-    ensures { EndsSo stands_at Moves never program.now (Index call.now index) owner.old owner.new result }
+    ensures { EndsSo stands_at Moves never program.now
+        (Index call.now index) owner.old owner.new result }
 {
     run_index(program, call, index, owner)
 }

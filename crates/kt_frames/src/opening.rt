@@ -17,7 +17,8 @@ pub fn open<'a>(alloc: Global, program: &'a Program, input: &[u64]) -> Result<Ow
     requires accepted { IsAccepted program.now }
     requires inputs { length input.now ≡ inputs_of program.now.families }
     ensures live { IfOk result (λ owner. IsLive program.now owner) }
-    ensures whole { IfOk result (λ owner. left program.now owner None ≡ outcome_of program.now input.now) }
+    ensures whole { IfOk result (λ owner.
+        left program.now owner None ≡ outcome_of program.now input.now) }
 {
     let store = PlainStore::open(alloc, program, input)?;
     let frames = Frames::reserve(alloc, TASKS)?;

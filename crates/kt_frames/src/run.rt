@@ -21,7 +21,8 @@ pub fn run_owner(alloc: Global, program: &Program, input: &[u64]) -> Result<Ran,
     requires accepted { IsAccepted program.now }
     requires whole { length input.now ≡ inputs_of program.now.families }
     ensures ran { IfOk result (λ ran. ran ≡ outcome_of program.now input.now) }
-    ensures rows { IfOk result (λ ran. (rows : List ℕ) → ran.outcome ≡ Rows rows → length rows ≡ elements_of program.now.families) }
+    ensures rows { IfOk result (λ ran. (rows : List ℕ) → ran.outcome ≡ Rows rows
+        → length rows ≡ elements_of program.now.families) }
 {
     let mut owner = open(alloc, program, input)?;
     let mut tiles = Tiles::new(alloc)?;
@@ -49,7 +50,8 @@ fn over() -> Ran
 /// What a run comes to once no task is left: the least fault, or else the rows.
 fn ended(owner: Owner, least: Option<FaultAt>) -> Ran
     ensures ran { result ≡ ended_ran owner.entry least }
-    ensures rows { (rows : List ℕ) → result.outcome ≡ Rows rows → length rows ≡ elements_of owner.entry.store.program.families }
+    ensures rows { (rows : List ℕ) → result.outcome ≡ Rows rows
+        → length rows ≡ elements_of owner.entry.store.program.families }
 {
     let tasks = owner.frames.tasks();
     let indexes = owner.indexes;

@@ -61,7 +61,8 @@ impl Choices {
     /// Takes some task out of those that run.
     pub fn take_running(&mut self) -> Option<u32>
         ensures below { (tasks : ℕ) → AreBelow tasks self.old → AreBelow tasks self.new }
-        ensures inside { (tasks : ℕ) → AreBelow tasks self.old → IfSome result (λ task. task < tasks) }
+        ensures inside { (tasks : ℕ) → AreBelow tasks self.old
+            → IfSome result (λ task. task < tasks) }
     {
         match pick(self.running.len(), &mut self.random) {
             None => None,
@@ -72,7 +73,8 @@ impl Choices {
     /// Takes some index out of those that are held.
     pub fn take_held(&mut self) -> Option<Held>
         ensures below { (tasks : ℕ) → AreBelow tasks self.old → AreBelow tasks self.new }
-        ensures inside { (tasks : ℕ) → AreBelow tasks self.old → IfSome result (λ held. held.task < tasks) }
+        ensures inside { (tasks : ℕ) → AreBelow tasks self.old
+            → IfSome result (λ held. held.task < tasks) }
     {
         match pick(self.held.len(), &mut self.random) {
             None => None,
@@ -82,7 +84,8 @@ impl Choices {
 
     /// Takes note of indexes that were taken, so many from one on.
     pub fn note_taken(&mut self, task: u32, from: u32, count: u32) -> Result<(), NoMemory>
-        ensures { (tasks : ℕ) → AreBelow tasks self.old → task < tasks → IfOk result (λ _. AreBelow tasks self.new) }
+        ensures { (tasks : ℕ) → AreBelow tasks self.old → task < tasks
+            → IfOk result (λ _. AreBelow tasks self.new) }
     {
         for turn in 0..count {
             let index = from.saturating_add(turn);

@@ -11,7 +11,8 @@ use kt_prog::FaultAt;
 /// The least of a fault that there may be and those of a task and its indexes.
 fn least_at(core: &Core, task: u32, least: Option<FaultAt>) -> Option<FaultAt>
     requires { task < length core.now.table.tasks }
-    ensures { (r : TaskRow) → slice_get core.now.table.tasks task ≡ Some r → result ≡ least_among least (faults_at core.now.program r) }
+    ensures { (r : TaskRow) → slice_get core.now.table.tasks task ≡ Some r
+        → result ≡ least_among least (faults_at core.now.program r) }
 {
     core.is_lawful();
     let mut least = earlier(least, core.fault(task));

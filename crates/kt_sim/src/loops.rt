@@ -60,7 +60,8 @@ fn some_piece(core: &Core, choices: &mut Choices, task: u32) -> Option<Span>
 /// Where the first piece of a loop begins and ends.
 fn first_piece(core: &Core, task: u32) -> Option<Span>
     requires { task < length core.now.table.tasks }
-    ensures { (r : TaskRow) → slice_get core.now.table.tasks task ≡ Some r → result ≡ first_of r.loop.pieces }
+    ensures { (r : TaskRow) → slice_get core.now.table.tasks task ≡ Some r
+        → result ≡ first_of r.loop.pieces }
 {
     match core.pieces(task) {
         [] => None,
@@ -146,7 +147,8 @@ pub fn try_held(simulation: &mut Simulation, choices: &mut Choices) -> Result<bo
     requires below { AreBelow (length simulation.old.core.table.tasks) choices.old }
     ensures tries { TriesBody simulation.old.core simulation.new.core result }
     ensures counted { IfOk result (λ _. IsCounted simulation.new) }
-    ensures below { IfOk result (λ _. AreBelow (length simulation.new.core.table.tasks) choices.new) }
+    ensures below { IfOk result (λ _.
+        AreBelow (length simulation.new.core.table.tasks) choices.new) }
 {
     match choices.take_held() {
         None => Ok(false),
@@ -186,7 +188,8 @@ pub fn loop_on(
     requires free { IsFreeLoop task simulation.old.core }
     ensures goes { GoesOn simulation.old.core simulation.new.core result }
     ensures counted { IfOk result (λ _. IsCounted simulation.new) }
-    ensures below { IfOk result (λ _. AreBelow (length simulation.new.core.table.tasks) choices.new) }
+    ensures below { IfOk result (λ _.
+        AreBelow (length simulation.new.core.table.tasks) choices.new) }
 {
     if try_loop(&mut simulation.core, choices, task, workers)? {
         return Ok(());
@@ -205,7 +208,8 @@ fn settle(simulation: &mut Simulation, choices: &mut Choices, task: u32) -> Resu
     requires free { IsFreeLoop task simulation.old.core }
     ensures goes { GoesOn simulation.old.core simulation.new.core result }
     ensures counted { IfOk result (λ _. IsCounted simulation.new) }
-    ensures below { IfOk result (λ _. AreBelow (length simulation.new.core.table.tasks) choices.new) }
+    ensures below { IfOk result (λ _.
+        AreBelow (length simulation.new.core.table.tasks) choices.new) }
 {
     simulation.core.is_lawful();
     match first_piece(&simulation.core, task) {
@@ -234,7 +238,8 @@ fn take_first(core: &mut Core, choices: &mut Choices, task: u32, span: Span) -> 
 /// The first index of a loop that is under way.
 fn first_taken(core: &Core, task: u32) -> Option<u32>
     requires { task < length core.now.table.tasks }
-    ensures some { (r : TaskRow) → slice_get core.now.table.tasks task ≡ Some r → IfSome result (λ i. is_under_way (slice_get r.loop.indexes i) ≡ true) }
+    ensures some { (r : TaskRow) → slice_get core.now.table.tasks task ≡ Some r
+        → IfSome result (λ i. is_under_way (slice_get r.loop.indexes i) ≡ true) }
     ensures none { (r : TaskRow) → slice_get core.now.table.tasks task ≡ Some r → result ≡ None
         → (i : ℕ) → i < r.call.length → is_under_way (slice_get r.loop.indexes i) ≡ false }
 {

@@ -36,7 +36,8 @@ pub fn simulate<'a>(
     ensures ran { IfOk result (λ x. x.0 ≡ outcome_of program.now input.now) }
     ensures job { IfOk result (λ x. (x.1.program ≡ program.now) × (x.1.input ≡ input.now)) }
     ensures finished { IfOk result (λ x. x.0.outcome ≢ Limit → MainIsFinished x.1.table.tasks) }
-    ensures rows { IfOk result (λ x. (rows : List ℕ) → x.0.outcome ≡ Rows rows → length rows ≡ elements_of program.now.families) }
+    ensures rows { IfOk result (λ x. (rows : List ℕ) → x.0.outcome ≡ Rows rows
+        → length rows ≡ elements_of program.now.families) }
 {
     let core = Core::new(alloc, program, input)?;
     let mut choices = Choices::new(alloc, number)?;
@@ -81,7 +82,8 @@ fn answer(alloc: Global, core: &Core, indexes: u32) -> Result<Ran, NoMemory>
     requires counted { count_indexes core.now.table.tasks ≡ indexes }
     requires finished { MainIsFinished core.now.table.tasks }
     ensures ran { IfOk result (λ ran. ran ≡ outcome_of core.now.program core.now.input) }
-    ensures rows { IfOk result (λ ran. (rows : List ℕ) → ran.outcome ≡ Rows rows → length rows ≡ elements_of core.now.program.families) }
+    ensures rows { IfOk result (λ ran. (rows : List ℕ) → ran.outcome ≡ Rows rows
+        → length rows ≡ elements_of core.now.program.families) }
 {
     core.gives_outcome();
     let tasks = core.tasks();

@@ -75,7 +75,8 @@ fn run_whole(
     requires running { IsInPhase Running task simulation.old.core }
     ensures goes { GoesOn simulation.old.core simulation.new.core result }
     ensures counted { IfOk result (λ _. IsCounted simulation.new) }
-    ensures below { IfOk result (λ _. AreBelow (length simulation.new.core.table.tasks) choices.new) }
+    ensures below { IfOk result (λ _.
+        AreBelow (length simulation.new.core.table.tasks) choices.new) }
 {
     let before = simulation.core.tasks();
     run_task(simulation, tiles, task)?;
@@ -101,7 +102,8 @@ fn go_on(
     requires free { IsFree task simulation.old.core }
     ensures goes { GoesOn simulation.old.core simulation.new.core result }
     ensures counted { IfOk result (λ _. IsCounted simulation.new) }
-    ensures below { IfOk result (λ _. AreBelow (length simulation.new.core.table.tasks) choices.new) }
+    ensures below { IfOk result (λ _.
+        AreBelow (length simulation.new.core.table.tasks) choices.new) }
 {
     match simulation.core.phase(task) {
         Phase::Unclaimed => {
@@ -196,7 +198,8 @@ fn try_ahead(simulation: &mut Simulation, choices: &mut Choices, workers: u32) -
     requires below { AreBelow (length simulation.old.core.table.tasks) choices.old }
     ensures tries { TriesBody simulation.old.core simulation.new.core result }
     ensures counted { IfOk result (λ _. IsCounted simulation.new) }
-    ensures below { IfOk result (λ _. AreBelow (length simulation.new.core.table.tasks) choices.new) }
+    ensures below { IfOk result (λ _.
+        AreBelow (length simulation.new.core.table.tasks) choices.new) }
 {
     if choices.flips() {
         return try_held(simulation, choices);
@@ -220,7 +223,8 @@ fn turn(
     requires open { IsOpen simulation.old.core }
     ensures goes { GoesOn simulation.old.core simulation.new.core result }
     ensures counted { IfOk result (λ _. IsCounted simulation.new) }
-    ensures below { IfOk result (λ _. AreBelow (length simulation.new.core.table.tasks) choices.new) }
+    ensures below { IfOk result (λ _.
+        AreBelow (length simulation.new.core.table.tasks) choices.new) }
 {
     if try_ahead(simulation, choices, workers)? {
         return Ok(());
