@@ -35,7 +35,9 @@ pub fn accesses_of(t: &RunTable, s: &mut Seat, at: u32) -> ArrayVec<Access, ACCE
     requires live { IsLiveOf t.now.layout s.old.worker s.old.token.me.0 }
     requires inside { at < RECORDS * t.now.layout.workers }
     requires looked { (word : ℕ) × (ns : List Note) × IsLookedAt s.old.token.me.0 at word ns }
-    ensures seat { (s.new.token.table_id ≡ s.old.token.table_id) × (s.new.token.me.1 ≡ s.old.token.me.1) × (s.new.worker ≡ s.old.worker) × (s.new.word ≡ s.old.word) }
+    ensures seat { (s.new.token.table_id ≡ s.old.token.table_id)
+        × (s.new.token.me.1 ≡ s.old.token.me.1) × (s.new.worker ≡ s.old.worker)
+        × (s.new.word ≡ s.old.word) }
     ensures among { All (IsAmong t.now.layout.objects) result.items }
     ensures found { (word : ℕ) (ns : List Note) → IsLookedAt s.old.token.me.0 at word ns
         → s.new.token.me.0 ≡ with_note s.old.token.me.0 (found_of at word result.items) ns }
@@ -53,11 +55,15 @@ fn accesses_told(t: &RunTable, s: &mut Seat, at: u32) -> u32
     requires seat { s.old.token.table_id ≡ t.now.table.shared.table_id }
     requires live { IsLiveOf t.now.layout s.old.worker s.old.token.me.0 }
     requires inside { at < RECORDS * t.now.layout.workers }
-    requires looked { (o : Note) × (ns : List Note) × (s.old.token.me.0.seen.notes ≡ o ∷ ns) × (o.at ≡ at) }
-    ensures seat { (s.new.token.table_id ≡ s.old.token.table_id) × (s.new.token.me.1 ≡ s.old.token.me.1) × (s.new.worker ≡ s.old.worker) × (s.new.word ≡ s.old.word) }
+    requires looked { (o : Note) × (ns : List Note) × (s.old.token.me.0.seen.notes ≡ o ∷ ns)
+        × (o.at ≡ at) }
+    ensures seat { (s.new.token.table_id ≡ s.old.token.table_id)
+        × (s.new.token.me.1 ≡ s.old.token.me.1) × (s.new.worker ≡ s.old.worker)
+        × (s.new.word ≡ s.old.word) }
     ensures few { result ≤ 8 }
     ensures noted { (o : Note) (ns : List Note) → s.old.token.me.0.seen.notes ≡ o ∷ ns
-        → s.new.token.me.0 ≡ with_note s.old.token.me.0 (record o { headed = true; count = result }) ns }
+        → s.new.token.me.0
+        ≡ with_note s.old.token.me.0 (record o { headed = true; count = result }) ns }
 {
     let word = t
         .table
@@ -72,7 +78,9 @@ fn access_found(t: &RunTable, s: &mut Seat, at: u32, k: u32) -> Access
     requires live { IsLiveOf t.now.layout s.old.worker s.old.token.me.0 }
     requires inside { at < RECORDS * t.now.layout.workers }
     requires counted { IsCounted s.old.token.me.0 at k }
-    ensures seat { (s.new.token.table_id ≡ s.old.token.table_id) × (s.new.token.me.1 ≡ s.old.token.me.1) × (s.new.worker ≡ s.old.worker) × (s.new.word ≡ s.old.word) }
+    ensures seat { (s.new.token.table_id ≡ s.old.token.table_id)
+        × (s.new.token.me.1 ≡ s.old.token.me.1) × (s.new.worker ≡ s.old.worker)
+        × (s.new.word ≡ s.old.word) }
     ensures among { IsAmong t.now.layout.objects result }
     ensures noted { (o : Note) (ns : List Note) → s.old.token.me.0.seen.notes ≡ o ∷ ns
         → s.new.token.me.0 ≡ with_note s.old.token.me.0 (found_so o result) ns }

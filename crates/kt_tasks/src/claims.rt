@@ -82,8 +82,12 @@ pub fn finish(t: &RunTable, s: &mut Seat, at: u32)
     requires live { IsLiveOf t.now.layout s.old.worker s.old.token.me.0 }
     requires inside { at < RECORDS * t.now.layout.workers }
     requires ended { MayFinish s.old.token.me.0 at }
-    ensures seat { (s.new.token.table_id ≡ s.old.token.table_id) × (s.new.token.me.1 ≡ s.old.token.me.1) × (s.new.worker ≡ s.old.worker) × (s.new.word ≡ s.old.word) }
-    ensures finished { (e : Execution) (rest : List Execution) → s.old.token.me.0.tasks.running ≡ e ∷ rest → s.new.token.me.0 ≡ finishes s.old.token.me.0 e rest }
+    ensures seat { (s.new.token.table_id ≡ s.old.token.table_id)
+        × (s.new.token.me.1 ≡ s.old.token.me.1) × (s.new.worker ≡ s.old.worker)
+        × (s.new.word ≡ s.old.word) }
+    ensures finished { (e : Execution) (rest : List Execution)
+        → s.old.token.me.0.tasks.running ≡ e ∷ rest
+        → s.new.token.me.0 ≡ finishes s.old.token.me.0 e rest }
 {
     let place = t.layout.field(at, STATE);
     let found = t.table.shared.load::<LookingRunning>(&mut s.token, place);
@@ -101,9 +105,13 @@ pub fn start(t: &RunTable, s: &mut Seat, at: u32)
     requires seat { s.old.token.table_id ≡ t.now.table.shared.table_id }
     requires live { IsLiveOf t.now.layout s.old.worker s.old.token.me.0 }
     requires inside { (at < RECORDS * t.now.layout.workers) × (s.old.worker < 8) }
-    requires given { (m : Spot) × (rest : List Spot) × (s.old.token.me.0.tasks.given ≡ m ∷ rest) × (m.berth.at ≡ at) }
-    ensures seat { (s.new.token.table_id ≡ s.old.token.table_id) × (s.new.token.me.1 ≡ s.old.token.me.1) × (s.new.worker ≡ s.old.worker) × (s.new.word ≡ s.old.word) }
-    ensures started { (m : Spot) (rest : List Spot) → s.old.token.me.0.tasks.given ≡ m ∷ rest → s.new.token.me.0 ≡ starts s.old.token.me.0 m rest }
+    requires given { (m : Spot) × (rest : List Spot) × (s.old.token.me.0.tasks.given ≡ m ∷ rest)
+        × (m.berth.at ≡ at) }
+    ensures seat { (s.new.token.table_id ≡ s.old.token.table_id)
+        × (s.new.token.me.1 ≡ s.old.token.me.1) × (s.new.worker ≡ s.old.worker)
+        × (s.new.word ≡ s.old.word) }
+    ensures started { (m : Spot) (rest : List Spot) → s.old.token.me.0.tasks.given ≡ m ∷ rest
+        → s.new.token.me.0 ≡ starts s.old.token.me.0 m rest }
     ensures few { AreFew s.new.token.me.0 }
 {
     let place = t.layout.field(at, STATE);
@@ -122,9 +130,12 @@ pub fn start(t: &RunTable, s: &mut Seat, at: u32)
 pub fn claim_for(t: &RunTable, s: &mut Seat, at: u32, state: StateWord, thief: u32) -> Offer
     requires seat { s.old.token.table_id ≡ t.now.table.shared.table_id }
     requires live { IsLiveOf t.now.layout s.old.worker s.old.token.me.0 }
-    requires inside { (at < RECORDS * t.now.layout.workers) × (thief < t.now.layout.workers) × (thief < 8) }
+    requires inside { (at < RECORDS * t.now.layout.workers) × (thief < t.now.layout.workers)
+        × (thief < 8) }
     requires noted { IsNotedReady s.old.token.me.0 at state }
-    ensures seat { (s.new.token.table_id ≡ s.old.token.table_id) × (s.new.token.me.1 ≡ s.old.token.me.1) × (s.new.worker ≡ s.old.worker) × (s.new.word ≡ s.old.word) }
+    ensures seat { (s.new.token.table_id ≡ s.old.token.table_id)
+        × (s.new.token.me.1 ≡ s.old.token.me.1) × (s.new.worker ≡ s.old.worker)
+        × (s.new.word ≡ s.old.word) }
     ensures claimed { ClaimedFor s.old.token.me.0 at state thief s.new.token.me.0 result }
 {
     let place = t.layout.field(at, STATE);
@@ -150,8 +161,11 @@ pub fn claim_own(t: &RunTable, s: &mut Seat, at: u32) -> Claim
     requires seat { s.old.token.table_id ≡ t.now.table.shared.table_id }
     requires live { IsLiveOf t.now.layout s.old.worker s.old.token.me.0 }
     requires inside { (at < RECORDS * t.now.layout.workers) × (s.old.worker < 8) }
-    requires mine { (m : Spot) × IsMine s.old.token.me.0 at m × BeforeKnown s.old.token.me.0 m.path }
-    ensures seat { (s.new.token.table_id ≡ s.old.token.table_id) × (s.new.token.me.1 ≡ s.old.token.me.1) × (s.new.worker ≡ s.old.worker) × (s.new.word ≡ s.old.word) }
+    requires mine { (m : Spot) × IsMine s.old.token.me.0 at m
+        × BeforeKnown s.old.token.me.0 m.path }
+    ensures seat { (s.new.token.table_id ≡ s.old.token.table_id)
+        × (s.new.token.me.1 ≡ s.old.token.me.1) × (s.new.worker ≡ s.old.worker)
+        × (s.new.word ≡ s.old.word) }
     ensures claimed { Claimed s.old.token.me.0 at s.new.token.me.0 result }
     ensures few { AreFew s.new.token.me.0 }
 {

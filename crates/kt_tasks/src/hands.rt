@@ -29,7 +29,8 @@ fn field(t: &RunTable, s: &mut Seat, at: u32, field: u32) -> u64
     requires seat { s.old.token.table_id ≡ t.now.table.shared.table_id }
     requires live { IsLiveOf t.now.layout s.old.worker s.old.token.me.0 }
     requires inside { (at < RECORDS * t.now.layout.workers) × (field < FIELDS) }
-    ensures seat { (s.new.token.table_id ≡ s.old.token.table_id) × (s.new.token.me ≡ s.old.token.me) × (s.new.worker ≡ s.old.worker) × (s.new.word ≡ s.old.word) }
+    ensures seat { (s.new.token.table_id ≡ s.old.token.table_id) × (s.new.token.me ≡ s.old.token.me)
+        × (s.new.worker ≡ s.old.worker) × (s.new.word ≡ s.old.word) }
     ensures field { HasFields s.old.token.me.0 at field result }
 {
     t.table
@@ -43,7 +44,8 @@ fn head(t: &RunTable, s: &mut Seat, at: u32) -> HeadWord
     requires live { IsLiveOf t.now.layout s.old.worker s.old.token.me.0 }
     requires inside { at < RECORDS * t.now.layout.workers }
     requires held { (m : Spot) × IsHeld s.old.token.me.0 at m }
-    ensures seat { (s.new.token.table_id ≡ s.old.token.table_id) × (s.new.token.me ≡ s.old.token.me) × (s.new.worker ≡ s.old.worker) × (s.new.word ≡ s.old.word) }
+    ensures seat { (s.new.token.table_id ≡ s.old.token.table_id) × (s.new.token.me ≡ s.old.token.me)
+        × (s.new.worker ≡ s.old.worker) × (s.new.word ≡ s.old.word) }
     ensures head { (m : Spot) → IsHeld s.old.token.me.0 at m → result ≡ head_of (new_lie m.berth) }
     ensures few { (result.ints ≤ INTS) × (result.accesses ≤ ACCESSES) }
     ensures fits { AreFitting s.old.token.me.0 }
@@ -59,7 +61,8 @@ fn length(t: &RunTable, s: &mut Seat, at: u32) -> u32
     requires seat { s.old.token.table_id ≡ t.now.table.shared.table_id }
     requires live { IsLiveOf t.now.layout s.old.worker s.old.token.me.0 }
     requires inside { at < RECORDS * t.now.layout.workers }
-    ensures seat { (s.new.token.table_id ≡ s.old.token.table_id) × (s.new.token.me ≡ s.old.token.me) × (s.new.worker ≡ s.old.worker) × (s.new.word ≡ s.old.word) }
+    ensures seat { (s.new.token.table_id ≡ s.old.token.table_id) × (s.new.token.me ≡ s.old.token.me)
+        × (s.new.worker ≡ s.old.worker) × (s.new.word ≡ s.old.word) }
     ensures length { (m : Spot) → IsHeld s.old.token.me.0 at m → result ≡ m.berth.call.length }
 {
     match unpack_pair(field(t, s, at, EXTENT)) {
@@ -74,7 +77,8 @@ fn ints(t: &RunTable, s: &mut Seat, at: u32, count: u32) -> ArrayVec<u64, INTS>
     requires live { IsLiveOf t.now.layout s.old.worker s.old.token.me.0 }
     requires inside { (at < RECORDS * t.now.layout.workers) × (count ≤ INTS) }
     requires count { (m : Spot) → IsHeld s.old.token.me.0 at m → count ≡ length m.berth.call.ints }
-    ensures seat { (s.new.token.table_id ≡ s.old.token.table_id) × (s.new.token.me ≡ s.old.token.me) × (s.new.worker ≡ s.old.worker) × (s.new.word ≡ s.old.word) }
+    ensures seat { (s.new.token.table_id ≡ s.old.token.table_id) × (s.new.token.me ≡ s.old.token.me)
+        × (s.new.worker ≡ s.old.worker) × (s.new.word ≡ s.old.word) }
     ensures ints { (m : Spot) → IsHeld s.old.token.me.0 at m → result.items ≡ m.berth.call.ints }
 {
     let mut ints = ArrayVec::new();
@@ -89,9 +93,13 @@ fn access(t: &RunTable, s: &mut Seat, at: u32, number: u32) -> Access
     requires seat { s.old.token.table_id ≡ t.now.table.shared.table_id }
     requires live { IsLiveOf t.now.layout s.old.worker s.old.token.me.0 }
     requires inside { (at < RECORDS * t.now.layout.workers) × (number < ACCESSES) }
-    requires there { (m : Spot) × IsHeld s.old.token.me.0 at m × (number < length m.berth.call.accesses) }
-    ensures seat { (s.new.token.table_id ≡ s.old.token.table_id) × (s.new.token.me ≡ s.old.token.me) × (s.new.worker ≡ s.old.worker) × (s.new.word ≡ s.old.word) }
-    ensures access { (m : Spot) → IsHeld s.old.token.me.0 at m → number < length m.berth.call.accesses → get_elem? m.berth.call.accesses number ≡ some result }
+    requires there { (m : Spot) × IsHeld s.old.token.me.0 at m
+        × (number < length m.berth.call.accesses) }
+    ensures seat { (s.new.token.table_id ≡ s.old.token.table_id) × (s.new.token.me ≡ s.old.token.me)
+        × (s.new.worker ≡ s.old.worker) × (s.new.word ≡ s.old.word) }
+    ensures access { (m : Spot) → IsHeld s.old.token.me.0 at m
+        → number < length m.berth.call.accesses
+        → get_elem? m.berth.call.accesses number ≡ some result }
 {
     match unpack_access(field(t, s, at, FIRST_ACCESS + number)) {
         Some(access) => access,
@@ -105,9 +113,12 @@ fn accesses(t: &RunTable, s: &mut Seat, at: u32, count: u32) -> ArrayVec<Access,
     requires live { IsLiveOf t.now.layout s.old.worker s.old.token.me.0 }
     requires inside { (at < RECORDS * t.now.layout.workers) × (count ≤ ACCESSES) }
     requires held { (m : Spot) × IsHeld s.old.token.me.0 at m }
-    requires count { (m : Spot) → IsHeld s.old.token.me.0 at m → count ≡ length m.berth.call.accesses }
-    ensures seat { (s.new.token.table_id ≡ s.old.token.table_id) × (s.new.token.me ≡ s.old.token.me) × (s.new.worker ≡ s.old.worker) × (s.new.word ≡ s.old.word) }
-    ensures accesses { (m : Spot) → IsHeld s.old.token.me.0 at m → result.items ≡ m.berth.call.accesses }
+    requires count { (m : Spot) → IsHeld s.old.token.me.0 at m
+        → count ≡ length m.berth.call.accesses }
+    ensures seat { (s.new.token.table_id ≡ s.old.token.table_id) × (s.new.token.me ≡ s.old.token.me)
+        × (s.new.worker ≡ s.old.worker) × (s.new.word ≡ s.old.word) }
+    ensures accesses { (m : Spot) → IsHeld s.old.token.me.0 at m
+        → result.items ≡ m.berth.call.accesses }
 {
     let mut accesses = ArrayVec::new();
     for i in 0..count {
@@ -122,7 +133,8 @@ pub fn call_of(t: &RunTable, s: &mut Seat, at: u32) -> Call
     requires live { IsLiveOf t.now.layout s.old.worker s.old.token.me.0 }
     requires inside { at < RECORDS * t.now.layout.workers }
     requires held { (m : Spot) × IsHeld s.old.token.me.0 at m }
-    ensures seat { (s.new.token.table_id ≡ s.old.token.table_id) × (s.new.token.me ≡ s.old.token.me) × (s.new.worker ≡ s.old.worker) × (s.new.word ≡ s.old.word) }
+    ensures seat { (s.new.token.table_id ≡ s.old.token.table_id) × (s.new.token.me ≡ s.old.token.me)
+        × (s.new.worker ≡ s.old.worker) × (s.new.word ≡ s.old.word) }
     ensures call { IsCallIn s.old.token.me.0 at result }
 {
     let head = head(t, s, at);
@@ -144,7 +156,8 @@ pub fn number_of(t: &RunTable, s: &mut Seat, at: u32) -> u32
     requires live { IsLiveOf t.now.layout s.old.worker s.old.token.me.0 }
     requires inside { at < RECORDS * t.now.layout.workers }
     requires held { (m : Spot) × IsHeld s.old.token.me.0 at m }
-    ensures seat { (s.new.token.table_id ≡ s.old.token.table_id) × (s.new.token.me ≡ s.old.token.me) × (s.new.worker ≡ s.old.worker) × (s.new.word ≡ s.old.word) }
+    ensures seat { (s.new.token.table_id ≡ s.old.token.table_id) × (s.new.token.me ≡ s.old.token.me)
+        × (s.new.worker ≡ s.old.worker) × (s.new.word ≡ s.old.word) }
     ensures number { IsNumberIn s.old.token.me.0 at result }
 {
     head(t, s, at).number

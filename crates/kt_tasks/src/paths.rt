@@ -37,7 +37,8 @@ fn fork_of(t: &RunTable, s: &mut Seat, at: u32) -> u32
     requires live { IsLiveOf t.now.layout s.old.worker s.old.token.me.0 }
     requires inside { at < RECORDS * t.now.layout.workers }
     requires reached { (m : Spot) × IsReachedAt s.old.token.me.0 at m }
-    ensures seat { (s.new.token.table_id ≡ s.old.token.table_id) × (s.new.token.me ≡ s.old.token.me) × (s.new.worker ≡ s.old.worker) × (s.new.word ≡ s.old.word) }
+    ensures seat { (s.new.token.table_id ≡ s.old.token.table_id) × (s.new.token.me ≡ s.old.token.me)
+        × (s.new.worker ≡ s.old.worker) × (s.new.word ≡ s.old.word) }
     ensures fork { (m : Spot) → IsReachedAt s.old.token.me.0 at m → result ≡ m.berth.fork }
     ensures deep { (m : Spot) → IsReachedAt s.old.token.me.0 at m → length m.path ≤ DEPTH }
 {
@@ -54,8 +55,11 @@ fn above(t: &RunTable, s: &mut Seat, at: u32) -> Option<u32>
     requires live { IsLiveOf t.now.layout s.old.worker s.old.token.me.0 }
     requires inside { at < RECORDS * t.now.layout.workers }
     requires reached { (m : Spot) × IsReachedAt s.old.token.me.0 at m }
-    ensures seat { (s.new.token.table_id ≡ s.old.token.table_id) × (s.new.token.me.1 ≡ s.old.token.me.1) × (s.new.worker ≡ s.old.worker) × (s.new.word ≡ s.old.word) }
-    ensures above { (m : Spot) → IsReachedAt s.old.token.me.0 at m → IsAbove s.old.token.me.0 m s.new.token.me.0 result }
+    ensures seat { (s.new.token.table_id ≡ s.old.token.table_id)
+        × (s.new.token.me.1 ≡ s.old.token.me.1) × (s.new.worker ≡ s.old.worker)
+        × (s.new.word ≡ s.old.word) }
+    ensures above { (m : Spot) → IsReachedAt s.old.token.me.0 at m
+        → IsAbove s.old.token.me.0 m s.new.token.me.0 result }
     ensures inside { (n : ℕ) → result ≡ Some n → n < RECORDS * t.now.layout.workers }
 {
     let parent = t
@@ -74,7 +78,9 @@ pub fn path_of(t: &RunTable, s: &mut Seat, at: u32) -> ArrayVec<u32, PATH>
     requires live { IsLiveOf t.now.layout s.old.worker s.old.token.me.0 }
     requires inside { at < RECORDS * t.now.layout.workers }
     requires held { (m : Spot) × IsHeld s.old.token.me.0 at m }
-    ensures seat { (s.new.token.table_id ≡ s.old.token.table_id) × (s.new.token.me.1 ≡ s.old.token.me.1) × (s.new.worker ≡ s.old.worker) × (s.new.word ≡ s.old.word) }
+    ensures seat { (s.new.token.table_id ≡ s.old.token.table_id)
+        × (s.new.token.me.1 ≡ s.old.token.me.1) × (s.new.worker ≡ s.old.worker)
+        × (s.new.word ≡ s.old.word) }
     ensures moved { HasClimbed s.old.token.me.0 s.new.token.me.0 }
     ensures path { IsPathIn s.old.token.me.0 at result.items }
 {

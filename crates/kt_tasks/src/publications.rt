@@ -51,8 +51,11 @@ pub fn publish(
     requires seat { s.old.token.table_id ≡ t.now.table.shared.table_id }
     requires live { IsLiveOf t.now.layout s.old.worker s.old.token.me.0 }
     requires may { MayPublish s.old.token.me.0 parent at frame fork child.now }
-    ensures seat { (s.new.token.table_id ≡ s.old.token.table_id) × (s.new.token.me.1 ≡ s.old.token.me.1) × (s.new.worker ≡ s.old.worker) × (s.new.word ≡ s.old.word) }
-    ensures published { HasPublished s.old.token.me.0 parent at frame fork child.now s.new.token.me.0 result }
+    ensures seat { (s.new.token.table_id ≡ s.old.token.table_id)
+        × (s.new.token.me.1 ≡ s.old.token.me.1) × (s.new.worker ≡ s.old.worker)
+        × (s.new.word ≡ s.old.word) }
+    ensures published { HasPublished s.old.token.me.0 parent at frame fork child.now
+        s.new.token.me.0 result }
 {
     let place = t.layout.tasks_drawn();
     let drawn = t.table.shared.fetch_add::<Drawing>(&mut s.token, place, 1);

@@ -53,7 +53,9 @@ fn set(t: &RunTable, s: &mut Seat, at: u32, field: u32, word: u64)
     requires next { IsNext t.now.layout s.old.worker s.old.token.me.0 at }
     requires field { (0 < field) × (field < FIELDS) × MaySet t.now.layout field word }
     requires unset { (b : Stored) → In b s.old.token.me.0.region.built → b.field ≢ field }
-    ensures seat { (s.new.token.table_id ≡ s.old.token.table_id) × (s.new.token.me.1 ≡ s.old.token.me.1) × (s.new.worker ≡ s.old.worker) × (s.new.word ≡ s.old.word) }
+    ensures seat { (s.new.token.table_id ≡ s.old.token.table_id)
+        × (s.new.token.me.1 ≡ s.old.token.me.1) × (s.new.worker ≡ s.old.worker)
+        × (s.new.word ≡ s.old.word) }
     ensures set { s.new.token.me.0 ≡ builds s.old.token.me.0 field word }
 {
     let place = t.layout.field(at, field);
@@ -66,10 +68,13 @@ fn write_ints(t: &RunTable, s: &mut Seat, at: u32, ints: &[u64])
     requires next { IsNext t.now.layout s.old.worker s.old.token.me.0 at }
     requires few { length ints.now ≤ 8 }
     requires clear { AreClear 5 s.old.token.me.0 }
-    ensures seat { (s.new.token.table_id ≡ s.old.token.table_id) × (s.new.token.me.1 ≡ s.old.token.me.1) × (s.new.worker ≡ s.old.worker) × (s.new.word ≡ s.old.word) }
+    ensures seat { (s.new.token.table_id ≡ s.old.token.table_id)
+        × (s.new.token.me.1 ≡ s.old.token.me.1) × (s.new.worker ≡ s.old.worker)
+        × (s.new.word ≡ s.old.word) }
     ensures filled { HasFilled s.old.token.me.0 s.new.token.me.0 }
     ensures clear { AreClear 13 s.new.token.me.0 }
-    ensures ints { (k n : ℕ) → get_elem? ints.now k ≡ some n → In (record { field = 5 + k; word = n }) s.new.token.me.0.region.built }
+    ensures ints { (k n : ℕ) → get_elem? ints.now k ≡ some n
+        → In (record { field = 5 + k; word = n }) s.new.token.me.0.region.built }
 {
     for i in 0..ints.len() {
         set(t, s, at, FIRST_INT + i as u32, ints[i]);
@@ -81,11 +86,15 @@ fn write_accesses(t: &RunTable, s: &mut Seat, at: u32, accesses: &[Access])
     requires seat { s.old.token.table_id ≡ t.now.table.shared.table_id }
     requires next { IsNext t.now.layout s.old.worker s.old.token.me.0 at }
     requires few { length accesses.now ≤ 8 }
-    requires fit { (k : ℕ) (a : Access) → get_elem? accesses.now k ≡ some a → IsAccess a × (a.hi ≤ t.now.layout.objects) }
+    requires fit { (k : ℕ) (a : Access) → get_elem? accesses.now k ≡ some a → IsAccess a
+        × (a.hi ≤ t.now.layout.objects) }
     requires clear { AreClear 13 s.old.token.me.0 }
-    ensures seat { (s.new.token.table_id ≡ s.old.token.table_id) × (s.new.token.me.1 ≡ s.old.token.me.1) × (s.new.worker ≡ s.old.worker) × (s.new.word ≡ s.old.word) }
+    ensures seat { (s.new.token.table_id ≡ s.old.token.table_id)
+        × (s.new.token.me.1 ≡ s.old.token.me.1) × (s.new.worker ≡ s.old.worker)
+        × (s.new.word ≡ s.old.word) }
     ensures filled { HasFilled s.old.token.me.0 s.new.token.me.0 }
-    ensures accesses { (k : ℕ) (a : Access) → get_elem? accesses.now k ≡ some a → In (record { field = 13 + k; word = packed_access a }) s.new.token.me.0.region.built }
+    ensures accesses { (k : ℕ) (a : Access) → get_elem? accesses.now k ≡ some a
+        → In (record { field = 13 + k; word = packed_access a }) s.new.token.me.0.region.built }
 {
     for i in 0..accesses.len() {
         set(t, s, at, FIRST_ACCESS + i as u32, pack_access(&accesses[i]));
@@ -105,7 +114,9 @@ pub(crate) fn write_fields(
     requires next { IsNext t.now.layout s.old.worker s.old.token.me.0 at }
     requires fits { IsWritable t.now.layout number child.now }
     requires clear { AreClear 1 s.old.token.me.0 }
-    ensures seat { (s.new.token.table_id ≡ s.old.token.table_id) × (s.new.token.me.1 ≡ s.old.token.me.1) × (s.new.worker ≡ s.old.worker) × (s.new.word ≡ s.old.word) }
+    ensures seat { (s.new.token.table_id ≡ s.old.token.table_id)
+        × (s.new.token.me.1 ≡ s.old.token.me.1) × (s.new.worker ≡ s.old.worker)
+        × (s.new.word ≡ s.old.word) }
     ensures written { HasWritten s.old.token.me.0 parent number child.now s.new.token.me.0 }
     ensures few { (length child.now.ints ≤ INTS) × (length child.now.accesses ≤ ACCESSES) }
 {
@@ -145,8 +156,13 @@ pub(crate) fn announce<B: Berthed>(
     requires next { IsNext t.now.layout s.old.worker s.old.token.me.0 at }
     requires berth { B.berth ≡ berth_of parent at frame fork child.now number }
     requires may { MayAnnounce s.old.token.me.0 (berth_of parent at frame fork child.now number) }
-    ensures seat { (s.new.token.table_id ≡ s.old.token.table_id) × (s.new.token.me.1 ≡ s.old.token.me.1) × (s.new.worker ≡ s.old.worker) × (s.new.word ≡ s.old.word) }
-    ensures published { (e : Execution) (rest : List Execution) → s.old.token.me.0.tasks.running ≡ e ∷ rest → s.new.token.me.0 ≡ published s.old.token.me.0 e rest (berth_of parent at frame fork child.now number) }
+    ensures seat { (s.new.token.table_id ≡ s.old.token.table_id)
+        × (s.new.token.me.1 ≡ s.old.token.me.1) × (s.new.worker ≡ s.old.worker)
+        × (s.new.word ≡ s.old.word) }
+    ensures published { (e : Execution) (rest : List Execution)
+        → s.old.token.me.0.tasks.running ≡ e ∷ rest
+        → s.new.token.me.0
+        ≡ published s.old.token.me.0 e rest (berth_of parent at frame fork child.now number) }
 {
     let place = t.layout.field(at, STATE);
     let word = pack_state(&StateWord {

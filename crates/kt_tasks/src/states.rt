@@ -52,7 +52,8 @@ pub fn stand(t: &RunTable, s: &mut Seat, at: u32) -> StateWord
     requires seat { s.old.token.table_id ≡ t.now.table.shared.table_id }
     requires live { IsLiveOf t.now.layout s.old.worker s.old.token.me.0 }
     requires inside { at < RECORDS * t.now.layout.workers }
-    ensures seat { (s.new.token.table_id ≡ s.old.token.table_id) × (s.new.token.me.1 ≡ s.old.token.me.1) × (s.new.worker ≡ s.old.worker) }
+    ensures seat { (s.new.token.table_id ≡ s.old.token.table_id)
+        × (s.new.token.me.1 ≡ s.old.token.me.1) × (s.new.worker ≡ s.old.worker) }
     ensures state { IsStateWord result × (packed_state result ≡ s.new.word) }
     ensures looked { s.new.token.me.0 ≡ stands s.old.token.me.0 at s.new.word }
 {
