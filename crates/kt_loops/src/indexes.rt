@@ -29,7 +29,9 @@ pub fn retire(t: &RunTable, s: &mut Seat, at: u32, count: u32) -> u32
     requires live { IsLiveOf t.now.layout s.old.worker s.old.token.me.0 }
     requires inside { at < RECORDS * t.now.layout.workers }
     requires may { MayRetire s.old.token.me.0 at count }
-    ensures seat { (s.new.token.table_id ≡ s.old.token.table_id) × (s.new.token.me.1 ≡ s.old.token.me.1) × (s.new.worker ≡ s.old.worker) × (s.new.word ≡ s.old.word) }
+    ensures seat { (s.new.token.table_id ≡ s.old.token.table_id)
+        × (s.new.token.me.1 ≡ s.old.token.me.1) × (s.new.worker ≡ s.old.worker)
+        × (s.new.word ≡ s.old.word) }
     ensures retired { HasRetired s.old.token.me.0 at count s.new.token.me.0 result }
 {
     let place = t.layout.field(at, UNRETIRED);
@@ -46,7 +48,9 @@ pub fn left(t: &RunTable, s: &mut Seat, at: u32) -> u32
     requires live { IsLiveOf t.now.layout s.old.worker s.old.token.me.0 }
     requires inside { at < RECORDS * t.now.layout.workers }
     requires runs { RunsLoop s.old.token.me.0 at }
-    ensures seat { (s.new.token.table_id ≡ s.old.token.table_id) × (s.new.token.me.1 ≡ s.old.token.me.1) × (s.new.worker ≡ s.old.worker) × (s.new.word ≡ s.old.word) }
+    ensures seat { (s.new.token.table_id ≡ s.old.token.table_id)
+        × (s.new.token.me.1 ≡ s.old.token.me.1) × (s.new.worker ≡ s.old.worker)
+        × (s.new.word ≡ s.old.word) }
     ensures left { HasLeft s.old.token.me.0 s.new.token.me.0 result }
 {
     let place = t.layout.field(at, UNRETIRED);
@@ -58,7 +62,9 @@ pub fn first_of(t: &RunTable, s: &mut Seat, at: u32) -> u32
     requires seat { s.old.token.table_id ≡ t.now.table.shared.table_id }
     requires live { IsLiveOf t.now.layout s.old.worker s.old.token.me.0 }
     requires inside { at < RECORDS * t.now.layout.workers }
-    ensures seat { (s.new.token.table_id ≡ s.old.token.table_id) × (s.new.token.me.1 ≡ s.old.token.me.1) × (s.new.worker ≡ s.old.worker) × (s.new.word ≡ s.old.word) }
+    ensures seat { (s.new.token.table_id ≡ s.old.token.table_id)
+        × (s.new.token.me.1 ≡ s.old.token.me.1) × (s.new.worker ≡ s.old.worker)
+        × (s.new.word ≡ s.old.word) }
     ensures same { s.new.token.me.0 ≡ s.old.token.me.0 }
     ensures first { (long : _) × IsExtent s.old.token.me.0 at long result }
 {

@@ -43,9 +43,12 @@ impl Play<(), View> for Beginning {
 pub fn begin_loop(t: &RunTable, s: &mut Seat, at: u32) -> Begun
     requires seat { s.old.token.table_id ≡ t.now.table.shared.table_id }
     requires live { IsLiveOf t.now.layout s.old.worker s.old.token.me.0 }
-    requires inside { (s.old.worker < t.now.layout.workers) × (at < RECORDS * t.now.layout.workers) }
+    requires inside { (s.old.worker < t.now.layout.workers)
+        × (at < RECORDS * t.now.layout.workers) }
     requires may { MayBegin s.old.token.me.0 at }
-    ensures seat { (s.new.token.table_id ≡ s.old.token.table_id) × (s.new.token.me.1 ≡ s.old.token.me.1) × (s.new.worker ≡ s.old.worker) × (s.new.word ≡ s.old.word) }
+    ensures seat { (s.new.token.table_id ≡ s.old.token.table_id)
+        × (s.new.token.me.1 ≡ s.old.token.me.1) × (s.new.worker ≡ s.old.worker)
+        × (s.new.word ≡ s.old.word) }
     ensures begun { HasBegun s.old.token.me.0 at s.new.token.me.0 result }
 {
     let length = extent(t, s, at).low;

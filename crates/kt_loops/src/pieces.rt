@@ -44,9 +44,12 @@ impl Play<(), View> for Taking {
 pub fn take_piece(t: &RunTable, s: &mut Seat, at: u32, piece: Pair)
     requires seat { s.old.token.table_id ≡ t.now.table.shared.table_id }
     requires live { IsLiveOf t.now.layout s.old.worker s.old.token.me.0 }
-    requires inside { (s.old.worker < t.now.layout.workers) × (at < RECORDS * t.now.layout.workers) }
+    requires inside { (s.old.worker < t.now.layout.workers)
+        × (at < RECORDS * t.now.layout.workers) }
     requires may { MayHold s.old.token.me.0 at piece }
-    ensures seat { (s.new.token.table_id ≡ s.old.token.table_id) × (s.new.token.me.1 ≡ s.old.token.me.1) × (s.new.worker ≡ s.old.worker) × (s.new.word ≡ s.old.word) }
+    ensures seat { (s.new.token.table_id ≡ s.old.token.table_id)
+        × (s.new.token.me.1 ≡ s.old.token.me.1) × (s.new.worker ≡ s.old.worker)
+        × (s.new.word ≡ s.old.word) }
     ensures held { HasHeld s.old.token.me.0 at piece s.new.token.me.0 }
 {
     set_home(t, s, at);
@@ -62,7 +65,9 @@ pub fn chunk(t: &RunTable, s: &mut Seat, grain: u32) -> Taken
     requires live { IsLiveOf t.now.layout s.old.worker s.old.token.me.0 }
     requires inside { s.old.worker < t.now.layout.workers }
     requires some { 1 ≤ grain }
-    ensures seat { (s.new.token.table_id ≡ s.old.token.table_id) × (s.new.token.me.1 ≡ s.old.token.me.1) × (s.new.worker ≡ s.old.worker) × (s.new.word ≡ s.old.word) }
+    ensures seat { (s.new.token.table_id ≡ s.old.token.table_id)
+        × (s.new.token.me.1 ≡ s.old.token.me.1) × (s.new.worker ≡ s.old.worker)
+        × (s.new.word ≡ s.old.word) }
     ensures taken { HasTaken s.old.token.me.0 grain s.new.token.me.0 result }
 {
     let place = t.layout.interval(s.worker);

@@ -36,7 +36,9 @@ pub(crate) fn extent(t: &RunTable, s: &mut Seat, at: u32) -> Pair
     requires seat { s.old.token.table_id ≡ t.now.table.shared.table_id }
     requires live { IsLiveOf t.now.layout s.old.worker s.old.token.me.0 }
     requires inside { at < RECORDS * t.now.layout.workers }
-    ensures seat { (s.new.token.table_id ≡ s.old.token.table_id) × (s.new.token.me.1 ≡ s.old.token.me.1) × (s.new.worker ≡ s.old.worker) × (s.new.word ≡ s.old.word) }
+    ensures seat { (s.new.token.table_id ≡ s.old.token.table_id)
+        × (s.new.token.me.1 ≡ s.old.token.me.1) × (s.new.worker ≡ s.old.worker)
+        × (s.new.word ≡ s.old.word) }
     ensures same { s.new.token.me.0 ≡ s.old.token.me.0 }
     ensures extent { IsExtent s.old.token.me.0 at result.low result.high }
 {
@@ -63,7 +65,9 @@ pub(crate) fn place_first(t: &RunTable, s: &mut Seat, at: u32, length: u32, firs
     requires live { IsLiveOf t.now.layout s.old.worker s.old.token.me.0 }
     requires inside { at < RECORDS * t.now.layout.workers }
     requires may { MayPlace s.old.token.me.0 at length first }
-    ensures seat { (s.new.token.table_id ≡ s.old.token.table_id) × (s.new.token.me.1 ≡ s.old.token.me.1) × (s.new.worker ≡ s.old.worker) × (s.new.word ≡ s.old.word) }
+    ensures seat { (s.new.token.table_id ≡ s.old.token.table_id)
+        × (s.new.token.me.1 ≡ s.old.token.me.1) × (s.new.worker ≡ s.old.worker)
+        × (s.new.word ≡ s.old.word) }
     ensures placed { s.new.token.me.0 ≡ places_first s.old.token.me.0 }
 {
     let word = pack_pair(&Pair {
@@ -79,9 +83,12 @@ pub(crate) fn place_first(t: &RunTable, s: &mut Seat, at: u32, length: u32, firs
 pub(crate) fn set_home(t: &RunTable, s: &mut Seat, at: u32)
     requires seat { s.old.token.table_id ≡ t.now.table.shared.table_id }
     requires live { IsLiveOf t.now.layout s.old.worker s.old.token.me.0 }
-    requires inside { (s.old.worker < t.now.layout.workers) × (at < RECORDS * t.now.layout.workers) }
+    requires inside { (s.old.worker < t.now.layout.workers)
+        × (at < RECORDS * t.now.layout.workers) }
     requires free { s.old.token.me.0.loops.free ≡ true }
-    ensures seat { (s.new.token.table_id ≡ s.old.token.table_id) × (s.new.token.me.1 ≡ s.old.token.me.1) × (s.new.worker ≡ s.old.worker) × (s.new.word ≡ s.old.word) }
+    ensures seat { (s.new.token.table_id ≡ s.old.token.table_id)
+        × (s.new.token.me.1 ≡ s.old.token.me.1) × (s.new.worker ≡ s.old.worker)
+        × (s.new.word ≡ s.old.word) }
     ensures set { s.new.token.me.0 ≡ homes_at s.old.token.me.0 at }
 {
     let word = u64::from(at) + 1;

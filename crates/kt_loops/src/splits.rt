@@ -63,7 +63,9 @@ pub fn split(t: &RunTable, s: &mut Seat, victim: u32, parts: u32) -> Divided
     requires inside { victim < t.now.layout.workers }
     requires some { 1 ≤ parts }
     requires few { parts ≤ PARTS }
-    ensures seat { (s.new.token.table_id ≡ s.old.token.table_id) × (s.new.token.me.1 ≡ s.old.token.me.1) × (s.new.worker ≡ s.old.worker) × (s.new.word ≡ s.old.word) }
+    ensures seat { (s.new.token.table_id ≡ s.old.token.table_id)
+        × (s.new.token.me.1 ≡ s.old.token.me.1) × (s.new.worker ≡ s.old.worker)
+        × (s.new.word ≡ s.old.word) }
     ensures split { HasSplit victim s.old.token.me.0 parts s.new.token.me.0 result }
 {
     let place = t.layout.interval(victim);
@@ -97,9 +99,15 @@ fn exchange<C: Cutting>(
     requires seat { s.old.token.table_id ≡ t.now.table.shared.table_id }
     requires inside { place < t.now.table.shared.table_id.words }
     requires parts { C.parts ≡ parts }
-    requires may { Allows (Holds t.now.table.shared.key.items) t.now.table.shared.table_id.slots s.old.token.id s.old.token.me place (λ n. either (n == word) left n) (Tells (Splits parts) (step t.now.table.shared.table_id.slots place word left none) s.old.token.me) }
-    ensures seat { (s.new.token.table_id ≡ s.old.token.table_id) × (s.new.worker ≡ s.old.worker) × (s.new.word ≡ s.old.word) }
-    ensures told { Tells (Splits parts) (step t.now.table.shared.table_id.slots place word left none) s.old.token.me result s.new.token.me }
+    requires may { Allows (Holds t.now.table.shared.key.items) t.now.table.shared.table_id.slots
+        s.old.token.id s.old.token.me place (λ n. either (n == word) left n)
+        (Tells (Splits parts) (step t.now.table.shared.table_id.slots place word left none)
+        s.old.token.me) }
+    ensures seat { (s.new.token.table_id ≡ s.old.token.table_id) × (s.new.worker ≡ s.old.worker)
+        × (s.new.word ≡ s.old.word) }
+    ensures told { Tells (Splits parts)
+        (step t.now.table.shared.table_id.slots place word left none)
+        s.old.token.me result s.new.token.me }
 {
     t.table
         .shared
