@@ -63,7 +63,9 @@ pub fn lead(t: &RunTable, s: &mut Seat, victim: u32) -> Lead
     requires live { IsLiveOf t.now.layout s.old.worker s.old.token.me.0 }
     requires inside { victim < t.now.layout.workers }
     requires leads_none { s.old.token.me.0.desk.leads ≡ false }
-    ensures seat { (s.new.token.table_id ≡ s.old.token.table_id) × (s.new.token.me.1 ≡ s.old.token.me.1) × (s.new.worker ≡ s.old.worker) × (s.new.word ≡ s.old.word) }
+    ensures seat { (s.new.token.table_id ≡ s.old.token.table_id)
+        × (s.new.token.me.1 ≡ s.old.token.me.1) × (s.new.worker ≡ s.old.worker)
+        × (s.new.word ≡ s.old.word) }
     ensures led { Led t.now.layout.workers victim s.old.token.me.0 s.new.token.me.0 result }
 {
     let found = t.table.shared.compare_exchange::<Leading>(
@@ -83,8 +85,11 @@ pub fn hold(t: &RunTable, s: &mut Seat, victim: u32, thief: u32) -> bool
     requires seat { s.old.token.table_id ≡ t.now.table.shared.table_id }
     requires live { IsLiveOf t.now.layout s.old.worker s.old.token.me.0 }
     requires inside { thief < t.now.layout.workers }
-    requires leads { (s.old.token.me.0.desk.leads ≡ true) × (s.old.token.me.0.desk.victim ≡ victim) }
-    ensures seat { (s.new.token.table_id ≡ s.old.token.table_id) × (s.new.token.me.1 ≡ s.old.token.me.1) × (s.new.worker ≡ s.old.worker) × (s.new.word ≡ s.old.word) }
+    requires leads { (s.old.token.me.0.desk.leads ≡ true)
+        × (s.old.token.me.0.desk.victim ≡ victim) }
+    ensures seat { (s.new.token.table_id ≡ s.old.token.table_id)
+        × (s.new.token.me.1 ≡ s.old.token.me.1) × (s.new.worker ≡ s.old.worker)
+        × (s.new.word ≡ s.old.word) }
     ensures held { Held victim thief s.old.token.me.0 s.new.token.me.0 result }
 {
     let old = pack_post(&Post::Posted(victim));
@@ -102,7 +107,9 @@ pub fn answer_failed(t: &RunTable, s: &mut Seat, thief: u32)
     requires live { IsLiveOf t.now.layout s.old.worker s.old.token.me.0 }
     requires inside { thief < t.now.layout.workers }
     requires held { In thief s.old.token.me.0.desk.held }
-    ensures seat { (s.new.token.table_id ≡ s.old.token.table_id) × (s.new.token.me.1 ≡ s.old.token.me.1) × (s.new.worker ≡ s.old.worker) × (s.new.word ≡ s.old.word) }
+    ensures seat { (s.new.token.table_id ≡ s.old.token.table_id)
+        × (s.new.token.me.1 ≡ s.old.token.me.1) × (s.new.worker ≡ s.old.worker)
+        × (s.new.word ≡ s.old.word) }
     ensures answered { s.new.token.me.0 ≡ answers_one s.old.token.me.0 thief }
 {
     let new = pack_post(&Post::Failed);
@@ -117,8 +124,11 @@ pub fn answer_task(t: &RunTable, s: &mut Seat, thief: u32, at: u32)
     requires live { IsLiveOf t.now.layout s.old.worker s.old.token.me.0 }
     requires inside { thief < t.now.layout.workers }
     requires held { In thief s.old.token.me.0.desk.held }
-    requires promised { (m : Promise) × In m s.old.token.me.0.tasks.promised × (m.thief ≡ thief) × (m.spot.berth.at ≡ at) }
-    ensures seat { (s.new.token.table_id ≡ s.old.token.table_id) × (s.new.token.me.1 ≡ s.old.token.me.1) × (s.new.worker ≡ s.old.worker) × (s.new.word ≡ s.old.word) }
+    requires promised { (m : Promise) × In m s.old.token.me.0.tasks.promised × (m.thief ≡ thief)
+        × (m.spot.berth.at ≡ at) }
+    ensures seat { (s.new.token.table_id ≡ s.old.token.table_id)
+        × (s.new.token.me.1 ≡ s.old.token.me.1) × (s.new.worker ≡ s.old.worker)
+        × (s.new.word ≡ s.old.word) }
     ensures answered { s.new.token.me.0 ≡ gives_one s.old.token.me.0 thief at }
 {
     let new = pack_post(&Post::Task(at));
@@ -133,8 +143,11 @@ pub fn answer_piece(t: &RunTable, s: &mut Seat, thief: u32, at: u32, piece: Pair
     requires live { IsLiveOf t.now.layout s.old.worker s.old.token.me.0 }
     requires inside { thief < t.now.layout.workers }
     requires held { In thief s.old.token.me.0.desk.held }
-    requires piece { (x : Share) × In x s.old.token.me.0.loops.pieces × (x.spot.berth.at ≡ at) × (pair_of x ≡ piece) }
-    ensures seat { (s.new.token.table_id ≡ s.old.token.table_id) × (s.new.token.me.1 ≡ s.old.token.me.1) × (s.new.worker ≡ s.old.worker) × (s.new.word ≡ s.old.word) }
+    requires piece { (x : Share) × In x s.old.token.me.0.loops.pieces × (x.spot.berth.at ≡ at)
+        × (pair_of x ≡ piece) }
+    ensures seat { (s.new.token.table_id ≡ s.old.token.table_id)
+        × (s.new.token.me.1 ≡ s.old.token.me.1) × (s.new.worker ≡ s.old.worker)
+        × (s.new.word ≡ s.old.word) }
     ensures answered { s.new.token.me.0 ≡ deals_one s.old.token.me.0 thief at piece.low }
 {
     write(t, s, thief, piece);
@@ -147,7 +160,9 @@ fn write(t: &RunTable, s: &mut Seat, thief: u32, piece: Pair)
     requires live { IsLiveOf t.now.layout s.old.worker s.old.token.me.0 }
     requires inside { thief < t.now.layout.workers }
     requires held { In thief s.old.token.me.0.desk.held }
-    ensures seat { (s.new.token.table_id ≡ s.old.token.table_id) × (s.new.token.me.1 ≡ s.old.token.me.1) × (s.new.worker ≡ s.old.worker) × (s.new.word ≡ s.old.word) }
+    ensures seat { (s.new.token.table_id ≡ s.old.token.table_id)
+        × (s.new.token.me.1 ≡ s.old.token.me.1) × (s.new.worker ≡ s.old.worker)
+        × (s.new.word ≡ s.old.word) }
     ensures written { s.new.token.me.0 ≡ writes_one s.old.token.me.0 thief (packed_pair piece) }
 {
     let new = pack_pair(&piece);
@@ -161,9 +176,13 @@ fn deal(t: &RunTable, s: &mut Seat, thief: u32, at: u32, piece: Pair)
     requires seat { s.old.token.table_id ≡ t.now.table.shared.table_id }
     requires live { IsLiveOf t.now.layout s.old.worker s.old.token.me.0 }
     requires inside { thief < t.now.layout.workers }
-    requires written { In (record { thief = thief; piece = packed_pair piece }) s.old.token.me.0.desk.wrote }
-    requires piece { (x : Share) × In x s.old.token.me.0.loops.pieces × (x.spot.berth.at ≡ at) × (pair_of x ≡ piece) }
-    ensures seat { (s.new.token.table_id ≡ s.old.token.table_id) × (s.new.token.me.1 ≡ s.old.token.me.1) × (s.new.worker ≡ s.old.worker) × (s.new.word ≡ s.old.word) }
+    requires written { In (record { thief = thief; piece = packed_pair piece })
+        s.old.token.me.0.desk.wrote }
+    requires piece { (x : Share) × In x s.old.token.me.0.loops.pieces × (x.spot.berth.at ≡ at)
+        × (pair_of x ≡ piece) }
+    ensures seat { (s.new.token.table_id ≡ s.old.token.table_id)
+        × (s.new.token.me.1 ≡ s.old.token.me.1) × (s.new.worker ≡ s.old.worker)
+        × (s.new.word ≡ s.old.word) }
     ensures answered { s.new.token.me.0 ≡ deals_one s.old.token.me.0 thief at piece.low }
 {
     let new = pack_post(&Post::Piece(at));
@@ -177,9 +196,12 @@ pub fn release(t: &RunTable, s: &mut Seat, victim: u32)
     requires seat { s.old.token.table_id ≡ t.now.table.shared.table_id }
     requires live { IsLiveOf t.now.layout s.old.worker s.old.token.me.0 }
     requires inside { victim < t.now.layout.workers }
-    requires leads { (s.old.token.me.0.desk.leads ≡ true) × (s.old.token.me.0.desk.victim ≡ victim) }
+    requires leads { (s.old.token.me.0.desk.leads ≡ true)
+        × (s.old.token.me.0.desk.victim ≡ victim) }
     requires answered { s.old.token.me.0.desk.held ≡ [] }
-    ensures seat { (s.new.token.table_id ≡ s.old.token.table_id) × (s.new.token.me.1 ≡ s.old.token.me.1) × (s.new.worker ≡ s.old.worker) × (s.new.word ≡ s.old.word) }
+    ensures seat { (s.new.token.table_id ≡ s.old.token.table_id)
+        × (s.new.token.me.1 ≡ s.old.token.me.1) × (s.new.worker ≡ s.old.worker)
+        × (s.new.word ≡ s.old.word) }
     ensures released { s.new.token.me.0 ≡ releases_now s.old.token.me.0 }
 {
     t.table

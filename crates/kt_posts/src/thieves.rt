@@ -51,7 +51,9 @@ pub fn post(t: &RunTable, s: &mut Seat, victim: u32)
     requires live { IsLiveOf t.now.layout s.old.worker s.old.token.me.0 }
     requires inside { (s.old.worker < t.now.layout.workers) × (victim < t.now.layout.workers) }
     requires idle { s.old.token.me.0.desk.free ≡ true }
-    ensures seat { (s.new.token.table_id ≡ s.old.token.table_id) × (s.new.token.me.1 ≡ s.old.token.me.1) × (s.new.worker ≡ s.old.worker) × (s.new.word ≡ s.old.word) }
+    ensures seat { (s.new.token.table_id ≡ s.old.token.table_id)
+        × (s.new.token.me.1 ≡ s.old.token.me.1) × (s.new.worker ≡ s.old.worker)
+        × (s.new.word ≡ s.old.word) }
     ensures posted { s.new.token.me.0 ≡ posts s.old.token.me.0 victim }
 {
     let new = pack_post(&Post::Posted(victim));
@@ -66,8 +68,11 @@ pub fn look(t: &RunTable, s: &mut Seat) -> Answer
     requires live { IsLiveOf t.now.layout s.old.worker s.old.token.me.0 }
     requires inside { s.old.worker < t.now.layout.workers }
     requires busy { s.old.token.me.0.desk.free ≡ false }
-    ensures seat { (s.new.token.table_id ≡ s.old.token.table_id) × (s.new.token.me.1 ≡ s.old.token.me.1) × (s.new.worker ≡ s.old.worker) × (s.new.word ≡ s.old.word) }
-    ensures looked { (o : Post) × IsPost o × (s.new.token.me.0.desk.word ≡ packed_post o) × Settled o s.old.token.me.0 s.new.token.me.0 result }
+    ensures seat { (s.new.token.table_id ≡ s.old.token.table_id)
+        × (s.new.token.me.1 ≡ s.old.token.me.1) × (s.new.worker ≡ s.old.worker)
+        × (s.new.word ≡ s.old.word) }
+    ensures looked { (o : Post) × IsPost o × (s.new.token.me.0.desk.word ≡ packed_post o)
+        × Settled o s.old.token.me.0 s.new.token.me.0 result }
 {
     let found = peek(t, s);
     settle(t, s, found)
@@ -79,8 +84,11 @@ pub fn withdraw(t: &RunTable, s: &mut Seat) -> Answer
     requires live { IsLiveOf t.now.layout s.old.worker s.old.token.me.0 }
     requires inside { s.old.worker < t.now.layout.workers }
     requires busy { s.old.token.me.0.desk.free ≡ false }
-    ensures seat { (s.new.token.table_id ≡ s.old.token.table_id) × (s.new.token.me.1 ≡ s.old.token.me.1) × (s.new.worker ≡ s.old.worker) × (s.new.word ≡ s.old.word) }
-    ensures withdrew { (o : Post) × IsPost o × (s.new.token.me.0.desk.word ≡ packed_post o) × Withdrew o s.old.token.me.0 s.new.token.me.0 result }
+    ensures seat { (s.new.token.table_id ≡ s.old.token.table_id)
+        × (s.new.token.me.1 ≡ s.old.token.me.1) × (s.new.worker ≡ s.old.worker)
+        × (s.new.word ≡ s.old.word) }
+    ensures withdrew { (o : Post) × IsPost o × (s.new.token.me.0.desk.word ≡ packed_post o)
+        × Withdrew o s.old.token.me.0 s.new.token.me.0 result }
 {
     let found = peek(t, s);
     let Post::Posted(_) = found else {
@@ -115,10 +123,13 @@ fn peek(t: &RunTable, s: &mut Seat) -> Post
     requires live { IsLiveOf t.now.layout s.old.worker s.old.token.me.0 }
     requires inside { s.old.worker < t.now.layout.workers }
     requires busy { s.old.token.me.0.desk.free ≡ false }
-    ensures seat { (s.new.token.table_id ≡ s.old.token.table_id) × (s.new.token.me.1 ≡ s.old.token.me.1) × (s.new.worker ≡ s.old.worker) × (s.new.word ≡ s.old.word) }
+    ensures seat { (s.new.token.table_id ≡ s.old.token.table_id)
+        × (s.new.token.me.1 ≡ s.old.token.me.1) × (s.new.worker ≡ s.old.worker)
+        × (s.new.word ≡ s.old.word) }
     ensures found { IsPost result × (is_idle result ≡ false) }
     ensures asked { (victim : ℕ) → result ≡ P.Posted victim → victim ≡ s.old.token.me.0.desk.asked }
-    ensures seen { s.new.token.me.0 ≡ sees s.old.token.me.0 (packed_post result) (is_answer result) }
+    ensures seen { s.new.token.me.0
+        ≡ sees s.old.token.me.0 (packed_post result) (is_answer result) }
 {
     let word = t
         .table
@@ -133,9 +144,13 @@ fn settle(t: &RunTable, s: &mut Seat, found: Post) -> Answer
     requires live { IsLiveOf t.now.layout s.old.worker s.old.token.me.0 }
     requires inside { s.old.worker < t.now.layout.workers }
     requires found { IsPost found × (is_idle found ≡ false) }
-    requires seen { (s.old.token.me.0.desk.saw ≡ is_answer found) × (s.old.token.me.0.desk.word ≡ packed_post found) }
-    ensures seat { (s.new.token.table_id ≡ s.old.token.table_id) × (s.new.token.me.1 ≡ s.old.token.me.1) × (s.new.worker ≡ s.old.worker) × (s.new.word ≡ s.old.word) }
-    ensures settled { (v : View) → s.old.token.me.0 ≡ sees v (packed_post found) (is_answer found) → Settled found v s.new.token.me.0 result }
+    requires seen { (s.old.token.me.0.desk.saw ≡ is_answer found)
+        × (s.old.token.me.0.desk.word ≡ packed_post found) }
+    ensures seat { (s.new.token.table_id ≡ s.old.token.table_id)
+        × (s.new.token.me.1 ≡ s.old.token.me.1) × (s.new.worker ≡ s.old.worker)
+        × (s.new.word ≡ s.old.word) }
+    ensures settled { (v : View) → s.old.token.me.0 ≡ sees v (packed_post found) (is_answer found)
+        → Settled found v s.new.token.me.0 result }
 {
     match found {
         Post::Idle | Post::Posted(_) | Post::Held(_) => Answer::NotYet,
@@ -161,8 +176,11 @@ fn piece(t: &RunTable, s: &mut Seat) -> Pair
     requires live { IsLiveOf t.now.layout s.old.worker s.old.token.me.0 }
     requires inside { s.old.worker < t.now.layout.workers }
     requires saw { s.old.token.me.0.desk.saw ≡ true }
-    ensures seat { (s.new.token.table_id ≡ s.old.token.table_id) × (s.new.token.me.1 ≡ s.old.token.me.1) × (s.new.worker ≡ s.old.worker) × (s.new.word ≡ s.old.word) }
-    ensures got { IsPair result × (s.new.token.me.0 ≡ gets_piece s.old.token.me.0 (packed_pair result)) }
+    ensures seat { (s.new.token.table_id ≡ s.old.token.table_id)
+        × (s.new.token.me.1 ≡ s.old.token.me.1) × (s.new.worker ≡ s.old.worker)
+        × (s.new.word ≡ s.old.word) }
+    ensures got { IsPair result
+        × (s.new.token.me.0 ≡ gets_piece s.old.token.me.0 (packed_pair result)) }
 {
     let word = t
         .table
@@ -179,8 +197,11 @@ fn take(t: &RunTable, s: &mut Seat, seen: Post)
     requires seat { s.old.token.table_id ≡ t.now.table.shared.table_id }
     requires live { IsLiveOf t.now.layout s.old.worker s.old.token.me.0 }
     requires inside { s.old.worker < t.now.layout.workers }
-    requires saw { IsPost seen × (s.old.token.me.0.desk.saw ≡ true) × (s.old.token.me.0.desk.word ≡ packed_post seen) }
-    ensures seat { (s.new.token.table_id ≡ s.old.token.table_id) × (s.new.token.me.1 ≡ s.old.token.me.1) × (s.new.worker ≡ s.old.worker) × (s.new.word ≡ s.old.word) }
+    requires saw { IsPost seen × (s.old.token.me.0.desk.saw ≡ true)
+        × (s.old.token.me.0.desk.word ≡ packed_post seen) }
+    ensures seat { (s.new.token.table_id ≡ s.old.token.table_id)
+        × (s.new.token.me.1 ≡ s.old.token.me.1) × (s.new.worker ≡ s.old.worker)
+        × (s.new.word ≡ s.old.word) }
     ensures took { Took seen s.old.token.me.0 s.new.token.me.0 }
 {
     let answer = pack_post(&seen);
