@@ -22,7 +22,9 @@ pub fn load(t: &RunTable, s: &mut Seat, element: u32) -> u64
     requires live { IsLiveOf t.now.layout s.old.worker s.old.token.me.0 }
     requires inside { element < t.now.layout.elements }
     requires next { IsNextOn s.old.token.me.0 element Load }
-    ensures seat { (s.new.token.table_id ≡ s.old.token.table_id) × (s.new.token.me.1 ≡ s.old.token.me.1) × (s.new.worker ≡ s.old.worker) × (s.new.word ≡ s.old.word) }
+    ensures seat { (s.new.token.table_id ≡ s.old.token.table_id)
+        × (s.new.token.me.1 ≡ s.old.token.me.1) × (s.new.worker ≡ s.old.worker)
+        × (s.new.word ≡ s.old.word) }
     ensures loaded { DidOne s.old.token.me.0 result s.new.token.me.0 }
 {
     t.table
@@ -36,7 +38,9 @@ pub fn store(t: &RunTable, s: &mut Seat, element: u32, value: u64)
     requires live { IsLiveOf t.now.layout s.old.worker s.old.token.me.0 }
     requires inside { element < t.now.layout.elements }
     requires next { IsNextOn s.old.token.me.0 element (Store value) }
-    ensures seat { (s.new.token.table_id ≡ s.old.token.table_id) × (s.new.token.me.1 ≡ s.old.token.me.1) × (s.new.worker ≡ s.old.worker) × (s.new.word ≡ s.old.word) }
+    ensures seat { (s.new.token.table_id ≡ s.old.token.table_id)
+        × (s.new.token.me.1 ≡ s.old.token.me.1) × (s.new.worker ≡ s.old.worker)
+        × (s.new.word ≡ s.old.word) }
     ensures stored { DidOne s.old.token.me.0 value s.new.token.me.0 }
 {
     t.table
@@ -50,7 +54,9 @@ pub fn fold(t: &RunTable, s: &mut Seat, element: u32, op: Op, value: u64)
     requires live { IsLiveOf t.now.layout s.old.worker s.old.token.me.0 }
     requires inside { element < t.now.layout.elements }
     requires next { IsNextOn s.old.token.me.0 element (Fold op value) }
-    ensures seat { (s.new.token.table_id ≡ s.old.token.table_id) × (s.new.token.me.1 ≡ s.old.token.me.1) × (s.new.worker ≡ s.old.worker) × (s.new.word ≡ s.old.word) }
+    ensures seat { (s.new.token.table_id ≡ s.old.token.table_id)
+        × (s.new.token.me.1 ≡ s.old.token.me.1) × (s.new.worker ≡ s.old.worker)
+        × (s.new.word ≡ s.old.word) }
     ensures folded { (found : _) × DidOne s.old.token.me.0 found s.new.token.me.0 }
 {
     let at = t.layout.element(element);
