@@ -18,7 +18,8 @@ use kt_prog::{Arg, ArgWhat, Expr, Kind, Name, Sort};
 /// Notes the name where it isn't in sight.
 #[tactic(auto, using(crate::proofs::Passing::denied_late))]
 pub fn check_known(sight: &Sight, name: &Name, place: Place, found: &mut Option<Refusal>)
-    ensures { found.new ≡ noted found.old (unknown_name (kind_of (scope_of sight.now) name.now) place) }
+    ensures { found.new ≡ noted found.old
+        (unknown_name (kind_of (scope_of sight.now) name.now) place) }
 {
     if is_late(found, place) {
         return;
@@ -104,7 +105,8 @@ fn check_one(sight: &Sight, at: Place, want: Mode, e: &Expr, found: &mut Option<
 }
 
 fn check_many(sight: &Sight, at: Place, want: Mode, e: &Expr, found: &mut Option<Refusal>)
-    ensures { found.new ≡ noted found.old (many_rule at want (scope_of sight.now) (out-Expr e.now)) }
+    ensures { found.new ≡ noted found.old
+        (many_rule at want (scope_of sight.now) (out-Expr e.now)) }
 {
     match e {
         Expr::Num(_) => note(found, at, P::P8),
@@ -124,7 +126,8 @@ fn check_many(sight: &Sight, at: Place, want: Mode, e: &Expr, found: &mut Option
 /// Notes what an argument breaks of the parameter's sort.
 #[tactic(auto, using(crate::proofs::Passing::argument_is_late))]
 pub fn check_argument(sight: &Sight, sort: Sort, arg: &Arg, found: &mut Option<Refusal>)
-    ensures { found.new ≡ noted found.old (argument_rule arg.now.place sort (scope_of sight.now) arg.now.what) }
+    ensures { found.new ≡ noted found.old
+        (argument_rule arg.now.place sort (scope_of sight.now) arg.now.what) }
 {
     if is_argument_late(found, arg) {
         return;

@@ -23,7 +23,8 @@ fn is_kernel(name: &Name) -> bool
 
 #[tactic(auto, using(crate::proofs::Passing::name_late))]
 fn check_name(program: &Directory, name: &Name, place: Place, found: &mut Option<Refusal>)
-    ensures { found.new ≡ noted found.old (names_twice (declared_in program.now) (record { name = name.now; place = place } ∷ [])) }
+    ensures { found.new ≡ noted found.old
+        (names_twice (declared_in program.now) (record { name = name.now; place = place } ∷ [])) }
 {
     if is_late(found, place) {
         return;
@@ -33,7 +34,8 @@ fn check_name(program: &Directory, name: &Name, place: Place, found: &mut Option
 }
 
 fn check_family_names(program: &Directory, families: &[Family], found: &mut Option<Refusal>)
-    ensures { found.new ≡ noted found.old (names_twice (declared_in program.now) (map declared_family families.now)) }
+    ensures { found.new ≡ noted found.old
+        (names_twice (declared_in program.now) (map declared_family families.now)) }
 {
     for family in families {
         check_name(program, &family.name, family.place, found);
@@ -41,7 +43,8 @@ fn check_family_names(program: &Directory, families: &[Family], found: &mut Opti
 }
 
 fn check_task_names(program: &Directory, tasks: &[Task], found: &mut Option<Refusal>)
-    ensures { found.new ≡ noted found.old (names_twice (declared_in program.now) (map declared_task tasks.now)) }
+    ensures { found.new ≡ noted found.old
+        (names_twice (declared_in program.now) (map declared_task tasks.now)) }
 {
     for task in tasks {
         check_name(program, &task.name, task.place, found);
@@ -50,7 +53,8 @@ fn check_task_names(program: &Directory, tasks: &[Task], found: &mut Option<Refu
 
 /// Notes the declarations that have the name of an earlier one or of a kernel.
 pub fn check_names_twice(program: &Directory, found: &mut Option<Refusal>)
-    ensures { found.new ≡ noted found.old (names_twice (declared_in program.now) (declared_in program.now)) }
+    ensures { found.new ≡ noted found.old
+        (names_twice (declared_in program.now) (declared_in program.now)) }
 {
     check_family_names(program, program.families(), found);
     check_task_names(program, program.tasks(), found);
@@ -81,7 +85,8 @@ fn is_too_large(objects: u64, elements: u64, family: &Family) -> bool
     requires elements { elements ≤ ELEMENTS }
     ensures exact { result ≡ too_large objects elements family.now }
     ensures few { result ≡ false → objects + family.now.members ≤ OBJECTS }
-    ensures small { result ≡ false → elements + family.now.members * family.now.elements ≤ ELEMENTS }
+    ensures small { result ≡ false
+        → elements + family.now.members * family.now.elements ≤ ELEMENTS }
 {
     family.members == 0
         || family.elements == 0

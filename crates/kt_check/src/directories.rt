@@ -143,8 +143,10 @@ impl<'a> Directory<'a> {
 
     /// Where the first task or loop of this name stands, or else how many there are.
     pub fn task_at(&self, name: &Name) -> usize
-        ensures passed { task_named 1 self.now.tasks name.now ≡ task_named (suc result) (drop result self.now.tasks) name.now }
-        ensures here { result < length self.now.tasks → (t : Task) → t ≡ get_or self.now.tasks result t → bytes_eq t.name name.now ≡ true }
+        ensures passed { task_named 1 self.now.tasks name.now
+            ≡ task_named (suc result) (drop result self.now.tasks) name.now }
+        ensures here { result < length self.now.tasks → (t : Task)
+            → t ≡ get_or self.now.tasks result t → bytes_eq t.name name.now ≡ true }
     {
         task_at(
             self.program.tasks.as_slice(),
@@ -157,7 +159,8 @@ impl<'a> Directory<'a> {
     /// Whether a declaration of this name stands before the place.
     #[tactic(auto, using(crate::proofs::Noting::declared_either))]
     pub fn is_declared_before(&self, name: &Name, place: Place) -> bool
-        ensures { result ≡ is_earlier (declared_in self.now) (record { name = name.now; place = place }) }
+        ensures { result ≡ is_earlier (declared_in self.now)
+            (record { name = name.now; place = place }) }
     {
         let reached = is_reached(self.is_from, self.from, place);
         is_family_before(

@@ -51,7 +51,8 @@ fn note_number(found: &mut Option<Refusal>, kind: Option<Kind>, place: Place)
 
 #[tactic(auto, using(crate::proofs::Passing::number_late))]
 fn check_number(sight: &Sight, name: &Name, place: Place, found: &mut Option<Refusal>)
-    ensures { found.new ≡ noted found.old (number_rule (kind_of (scope_of sight.now) name.now) place) }
+    ensures { found.new ≡ noted found.old
+        (number_rule (kind_of (scope_of sight.now) name.now) place) }
 {
     if is_late(found, place) {
         return;
@@ -62,7 +63,9 @@ fn check_number(sight: &Sight, name: &Name, place: Place, found: &mut Option<Ref
 /// Notes what a load of this element breaks of its name's rules.
 #[tactic(auto, using(crate::proofs::Passing::load_late))]
 fn check_load(sight: &Sight, name: &Name, place: Place, at: &Expr, found: &mut Option<Refusal>)
-    ensures { found.new ≡ noted found.old (element_rule (load_rule (scope_of sight.now) (rules_of at.now).bare place) (kind_of (scope_of sight.now) name.now) place) }
+    ensures { found.new ≡ noted found.old
+        (element_rule (load_rule (scope_of sight.now) (rules_of at.now).bare place)
+        (kind_of (scope_of sight.now) name.now) place) }
 {
     if is_late(found, place) {
         return;

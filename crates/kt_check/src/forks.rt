@@ -55,7 +55,8 @@ fn check_sorts(sight: &Sight, sorts: &[Sort], args: &[Arg], found: &mut Option<R
 
 fn check_given(sight: &Sight, params: &[Param], args: &[Arg], found: &mut Option<Refusal>)
     requires { length args.now ≡ length params.now }
-    ensures { found.new ≡ noted found.old (argument_rules (map sort_of params.now) (scope_of sight.now) args.now) }
+    ensures { found.new ≡ noted found.old
+        (argument_rules (map sort_of params.now) (scope_of sight.now) args.now) }
 {
     for (i, arg) in args.iter().enumerate() {
         let param = &params[i];
@@ -81,7 +82,8 @@ fn check_kernel(
     args: &[Arg],
     found: &mut Option<Refusal>,
 )
-    ensures { found.new ≡ noted found.old (fork_rule (Some (kernel 0 sorts.now)) place (scope_of sight.now) len.now args.now) }
+    ensures { found.new ≡ noted found.old
+        (fork_rule (Some (kernel 0 sorts.now)) place (scope_of sight.now) len.now args.now) }
 {
     let counted = args.len() == sorts.len();
     let formed = len.is_none();
@@ -112,7 +114,8 @@ fn check_task(
     args: &[Arg],
     found: &mut Option<Refusal>,
 )
-    ensures { found.new ≡ noted found.old (fork_rule (Some (target 0 task.now)) place (scope_of sight.now) len.now args.now) }
+    ensures { found.new ≡ noted found.old
+        (fork_rule (Some (target 0 task.now)) place (scope_of sight.now) len.now args.now) }
 {
     let params = task.params.as_slice();
     let counted = is_counted(task, args);
@@ -136,7 +139,9 @@ fn check_named(
     args: &[Arg],
     found: &mut Option<Refusal>,
 )
-    ensures { found.new ≡ noted found.old (fork_rule (task_named 1 sight.now.program.now.tasks name.now) place (scope_of sight.now) len.now args.now) }
+    ensures { found.new ≡ noted found.old
+        (fork_rule (task_named 1 sight.now.program.now.tasks name.now) place
+        (scope_of sight.now) len.now args.now) }
 {
     if is_fork_late(found, place, len, args) {
         return;
@@ -161,7 +166,9 @@ pub fn check_fork(
     args: &[Arg],
     found: &mut Option<Refusal>,
 )
-    ensures { found.new ≡ noted found.old (fork_rule (target_of sight.now.program.now.tasks name.now) place (scope_of sight.now) len.now args.now) }
+    ensures { found.new ≡ noted found.old
+        (fork_rule (target_of sight.now.program.now.tasks name.now) place
+        (scope_of sight.now) len.now args.now) }
 {
     match Kernel::named(name) {
         Some(kernel) => check_kernel(sight, kernel.sorts(), place, len, args, found),

@@ -49,7 +49,8 @@ impl Lets {
 
     /// Notes that this statement stands there, while there is room.
     pub fn keep(&mut self, place: usize, what: &What)
-        ensures { length self.new < ROOM → self.new ≡ self.old ++ place_of_let place (out-What what.now) }
+        ensures { length self.new < ROOM
+            → self.new ≡ self.old ++ place_of_let place (out-What what.now) }
     {
         if let What::Let(_, _, _) = what {
             self.push(place);

@@ -82,8 +82,10 @@ fn is_such(declared: &Name, at: Place, name: &Name, place: Place) -> bool
 }
 
 fn is_family_beyond(families: &[Family], reached: bool, name: &Name, place: Place) -> bool
-    requires { reached ≡ true → is_earlier (map declared_family families.now) (record { name = name.now; place = place }) ≡ false }
-    ensures { result ≡ is_earlier (map declared_family families.now) (record { name = name.now; place = place }) }
+    requires { reached ≡ true → is_earlier (map declared_family families.now)
+        (record { name = name.now; place = place }) ≡ false }
+    ensures { result ≡ is_earlier (map declared_family families.now)
+        (record { name = name.now; place = place }) }
 {
     if reached {
         return false;
@@ -108,8 +110,11 @@ pub fn is_family_before(
 ) -> bool
     requires exact { chains.now ≡ take COVERED (map hash_family families.now) }
     requires few { length chains.now ≤ length families.now }
-    requires reached { reached ≡ true → is_earlier (map declared_family (drop (length chains.now) families.now)) (record { name = name.now; place = place }) ≡ false }
-    ensures { result ≡ is_earlier (map declared_family families.now) (record { name = name.now; place = place }) }
+    requires reached { reached ≡ true
+        → is_earlier (map declared_family (drop (length chains.now) families.now))
+        (record { name = name.now; place = place }) ≡ false }
+    ensures { result ≡ is_earlier (map declared_family families.now)
+        (record { name = name.now; place = place }) }
 {
     let covered = chains.len();
     let mut at = chains.first(hash(name));
@@ -124,8 +129,10 @@ pub fn is_family_before(
 }
 
 fn is_task_beyond(tasks: &[Task], reached: bool, name: &Name, place: Place) -> bool
-    requires { reached ≡ true → is_earlier (map declared_task tasks.now) (record { name = name.now; place = place }) ≡ false }
-    ensures { result ≡ is_earlier (map declared_task tasks.now) (record { name = name.now; place = place }) }
+    requires { reached ≡ true → is_earlier (map declared_task tasks.now)
+        (record { name = name.now; place = place }) ≡ false }
+    ensures { result ≡ is_earlier (map declared_task tasks.now)
+        (record { name = name.now; place = place }) }
 {
     if reached {
         return false;
@@ -150,8 +157,11 @@ pub fn is_task_before(
 ) -> bool
     requires exact { chains.now ≡ take COVERED (map hash_task tasks.now) }
     requires few { length chains.now ≤ length tasks.now }
-    requires reached { reached ≡ true → is_earlier (map declared_task (drop (length chains.now) tasks.now)) (record { name = name.now; place = place }) ≡ false }
-    ensures { result ≡ is_earlier (map declared_task tasks.now) (record { name = name.now; place = place }) }
+    requires reached { reached ≡ true
+        → is_earlier (map declared_task (drop (length chains.now) tasks.now))
+        (record { name = name.now; place = place }) ≡ false }
+    ensures { result ≡ is_earlier (map declared_task tasks.now)
+        (record { name = name.now; place = place }) }
 {
     let covered = chains.len();
     let mut at = chains.first(hash(name));
@@ -167,8 +177,10 @@ pub fn is_task_before(
 
 fn task_listed(tasks: &[Task], from: usize, name: &Name) -> usize
     requires { from ≤ length tasks.now }
-    ensures passed { task_named (suc from) (drop from tasks.now) name.now ≡ task_named (suc result) (drop result tasks.now) name.now }
-    ensures here { result < length tasks.now → (t : Task) → t ≡ get_or tasks.now result t → bytes_eq t.name name.now ≡ true }
+    ensures passed { task_named (suc from) (drop from tasks.now) name.now
+        ≡ task_named (suc result) (drop result tasks.now) name.now }
+    ensures here { result < length tasks.now → (t : Task) → t ≡ get_or tasks.now result t
+        → bytes_eq t.name name.now ≡ true }
 {
     for i in from..tasks.len() {
         let task = &tasks[i];
@@ -182,8 +194,10 @@ fn task_listed(tasks: &[Task], from: usize, name: &Name) -> usize
 fn task_beyond(tasks: &[Task], from: usize, beyond: &Beyond, name: &Name) -> usize
     requires from { from ≤ length tasks.now }
     requires told { Tells beyond.now (map name_of_task (drop from tasks.now)) }
-    ensures passed { task_named (suc from) (drop from tasks.now) name.now ≡ task_named (suc result) (drop result tasks.now) name.now }
-    ensures here { result < length tasks.now → (t : Task) → t ≡ get_or tasks.now result t → bytes_eq t.name name.now ≡ true }
+    ensures passed { task_named (suc from) (drop from tasks.now) name.now
+        ≡ task_named (suc result) (drop result tasks.now) name.now }
+    ensures here { result < length tasks.now → (t : Task) → t ≡ get_or tasks.now result t
+        → bytes_eq t.name name.now ≡ true }
 {
     match beyond {
         Beyond::Listed => task_listed(tasks, from, name),
@@ -199,8 +213,10 @@ pub fn task_at(tasks: &[Task], chains: &Chains, beyond: &Beyond, name: &Name) ->
     requires exact { chains.now ≡ take COVERED (map hash_task tasks.now) }
     requires few { length chains.now ≤ length tasks.now }
     requires told { Tells beyond.now (map name_of_task (drop (length chains.now) tasks.now)) }
-    ensures passed { task_named 1 tasks.now name.now ≡ task_named (suc result) (drop result tasks.now) name.now }
-    ensures here { result < length tasks.now → (t : Task) → t ≡ get_or tasks.now result t → bytes_eq t.name name.now ≡ true }
+    ensures passed { task_named 1 tasks.now name.now
+        ≡ task_named (suc result) (drop result tasks.now) name.now }
+    ensures here { result < length tasks.now → (t : Task) → t ≡ get_or tasks.now result t
+        → bytes_eq t.name name.now ≡ true }
 {
     let covered = chains.len();
     let mut at = chains.first(hash(name));

@@ -41,8 +41,10 @@ pub fn names_behind<'a>(
     lets: &'a Lets,
 ) -> Names<'a>
     requires count { count ≤ length stmts.now }
-    requires lets { length lets.now < ROOM → lets_at stmts.now lets.now ≡ let_names (take count stmts.now) }
-    requires all { length lets.now < ROOM → length lets.now ≡ length (let_names (take count stmts.now)) }
+    requires lets { length lets.now < ROOM
+        → lets_at stmts.now lets.now ≡ let_names (take count stmts.now) }
+    requires all { length lets.now < ROOM
+        → length lets.now ≡ length (let_names (take count stmts.now)) }
     ensures names { names_in result ≡ names_in outer.now ++ let_names (take count stmts.now) }
     ensures lets { lets_in result ≡ lets_in outer.now + length (let_names (take count stmts.now)) }
 {

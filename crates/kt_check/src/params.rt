@@ -29,7 +29,8 @@ fn check_sort(
     param: &Param,
     found: &mut Option<Refusal>,
 )
-    ensures { found.new ≡ noted found.old (sort_rule in_loop (record { ints = ints; objects = objects }) param.now param.now.sort) }
+    ensures { found.new ≡ noted found.old
+        (sort_rule in_loop (record { ints = ints; objects = objects }) param.now param.now.sort) }
 {
     match param.sort {
         Sort::Int => note_if(found, param.name_place, P::P12, ints == INTS),
@@ -73,7 +74,8 @@ fn with_object(objects: usize, sort: Sort) -> usize
 }
 
 fn is_taken(index: &Option<Index>, before: &[Param], name: &Name) -> bool
-    ensures { result ≡ (is_some (kind_index index.now name.now) || is_some (known_of (map known_param before.now) name.now)) }
+    ensures { result ≡ (is_some (kind_index index.now name.now)
+        || is_some (known_of (map known_param before.now) name.now)) }
 {
     index_kind(index, name).is_some() || param_kind(before, name).is_some()
 }
@@ -81,7 +83,9 @@ fn is_taken(index: &Option<Index>, before: &[Param], name: &Name) -> bool
 /// Notes a parameter that has the name of one before it or of the index.
 #[tactic(auto, using(crate::proofs::Passing::denied_late))]
 fn check_name(index: &Option<Index>, before: &[Param], param: &Param, found: &mut Option<Refusal>)
-    ensures { found.new ≡ noted found.old (denied param.now.name_place P5 (is_some (kind_index index.now param.now.name) || is_some (known_of (map known_param before.now) param.now.name))) }
+    ensures { found.new ≡ noted found.old
+        (denied param.now.name_place P5 (is_some (kind_index index.now param.now.name)
+        || is_some (known_of (map known_param before.now) param.now.name))) }
 {
     if is_late(found, param.name_place) {
         return;
@@ -92,7 +96,8 @@ fn check_name(index: &Option<Index>, before: &[Param], param: &Param, found: &mu
 
 /// Notes what the parameters of a task or loop break.
 pub fn check_params(index: &Option<Index>, params: &[Param], found: &mut Option<Refusal>)
-    ensures { found.new ≡ noted found.old (param_rules (is_loop_of index.now) (known_index index.now) no_params params.now) }
+    ensures { found.new ≡ noted found.old
+        (param_rules (is_loop_of index.now) (known_index index.now) no_params params.now) }
 {
     let in_loop = is_loop(index);
     let mut ints = 0;

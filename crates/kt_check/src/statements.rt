@@ -65,7 +65,8 @@ fn check_set(sight: &Sight, name: &Name, place: Place, found: &mut Option<Refusa
 /// Notes what a cumulation breaks of them.
 #[tactic(auto, using(crate::proofs::Passing::fold_late))]
 fn check_fold(sight: &Sight, op: Op, name: &Name, place: Place, found: &mut Option<Refusal>)
-    ensures { found.new ≡ noted found.old (element_rule (fold_rule op place) (kind_of (scope_of sight.now) name.now) place) }
+    ensures { found.new ≡ noted found.old
+        (element_rule (fold_rule op place) (kind_of (scope_of sight.now) name.now) place) }
 {
     if is_late(found, place) {
         return;
@@ -76,7 +77,9 @@ fn check_fold(sight: &Sight, op: Op, name: &Name, place: Place, found: &mut Opti
 /// Notes what a write of this element breaks of its name's rules.
 #[tactic(auto, using(crate::proofs::Passing::store_late))]
 fn check_store(sight: &Sight, name: &Name, place: Place, at: &Expr, found: &mut Option<Refusal>)
-    ensures { found.new ≡ noted found.old (element_rule (store_rule (scope_of sight.now) (rules_of at.now).bare place) (kind_of (scope_of sight.now) name.now) place) }
+    ensures { found.new ≡ noted found.old
+        (element_rule (store_rule (scope_of sight.now) (rules_of at.now).bare place)
+        (kind_of (scope_of sight.now) name.now) place) }
 {
     if is_late(found, place) {
         return;
@@ -95,7 +98,8 @@ fn check_store(sight: &Sight, name: &Name, place: Place, at: &Expr, found: &mut 
 /// Notes what a statement breaks.
 #[cycle(statements)]
 fn check_what(sight: &Sight, at: Place, what: &What, found: &mut Option<Refusal>)
-    ensures { found.new ≡ noted found.old (rules_of_what what.now at (scope_of sight.now)).breaches }
+    ensures { found.new ≡ noted found.old
+        (rules_of_what what.now at (scope_of sight.now)).breaches }
 {
     match what {
         What::Let(name, place, e) => {
@@ -142,7 +146,8 @@ fn check_what(sight: &Sight, at: Place, what: &What, found: &mut Option<Refusal>
 /// Notes what the statements of a block break, each with what is in sight behind those before it.
 #[cycle(statements)]
 pub fn check_block(sight: &Sight, stmts: &[Stmt], found: &mut Option<Refusal>)
-    ensures { found.new ≡ noted found.old (block_rules (map rules_of_stmt stmts.now) (scope_of sight.now)) }
+    ensures { found.new ≡ noted found.old
+        (block_rules (map rules_of_stmt stmts.now) (scope_of sight.now)) }
 {
     let mut lets = Lets::new();
     for (i, stmt) in stmts.iter().enumerate() {
