@@ -63,13 +63,15 @@ fn push_words(text: &mut String, line: &Line) -> Result<(), AllocError>
 }
 
 fn push_too_few(text: &mut String, found: u32, wanted: u32) -> Result<(), AllocError>
-    ensures { OnOk result (string_bytes text.new ≡ string_bytes text.old ++ too_few_text found wanted) }
+    ensures { OnOk result (string_bytes text.new
+        ≡ string_bytes text.old ++ too_few_text found wanted) }
 {
     write!(text, "data B2 {found} {wanted}")
 }
 
 fn push_totals(text: &mut String, tasks: u32, indexes: u32, sum: u64) -> Result<(), AllocError>
-    ensures { OnOk result (string_bytes text.new ≡ string_bytes text.old ++ totals_text tasks indexes sum) }
+    ensures { OnOk result (string_bytes text.new
+        ≡ string_bytes text.old ++ totals_text tasks indexes sum) }
 {
     write!(text, "tasks {tasks} indexes {indexes} sum {sum}")
 }
@@ -115,7 +117,8 @@ fn push_path(text: &mut String, path: &[u32]) -> Result<(), AllocError>
 
 /// Adds the numbers of a path behind its first one.
 fn push_steps(text: &mut String, steps: &[u32]) -> Result<(), AllocError>
-    ensures { OnOk result (string_bytes text.new ≡ string_bytes text.old ++ flat_map step_text steps.now) }
+    ensures { OnOk result (string_bytes text.new
+        ≡ string_bytes text.old ++ flat_map step_text steps.now) }
 {
     for step in steps {
         write!(text, ".{step}")?;

@@ -28,7 +28,8 @@ pub fn rows_bytes(alloc: Global, program: &Program, rows: &[u64]) -> Result<Vec<
 /// Adds a line for each member of a family, whose elements are `rows`.
 fn push_family(text: &mut String, family: &Family, rows: &[u64]) -> Result<(), AllocError>
     requires { length rows.now ≡ family.now.members * family.now.elements }
-    ensures { OnOk result (string_bytes text.new ≡ string_bytes text.old ++ family_text family.now rows.now) }
+    ensures { OnOk result (string_bytes text.new
+        ≡ string_bytes text.old ++ family_text family.now rows.now) }
 {
     let mut rest = rows;
     for member in 0..family.members {
@@ -41,7 +42,8 @@ fn push_family(text: &mut String, family: &Family, rows: &[u64]) -> Result<(), A
 
 /// Adds the line of one member.
 fn push_line(text: &mut String, name: &Name, member: u64, row: &[u64]) -> Result<(), AllocError>
-    ensures { OnOk result (string_bytes text.new ≡ string_bytes text.old ++ line_text name.now member row.now) }
+    ensures { OnOk result (string_bytes text.new
+        ≡ string_bytes text.old ++ line_text name.now member row.now) }
 {
     let name = name.as_str();
     write!(text, "{name}[{member}]")?;

@@ -11,7 +11,8 @@ use kt_prog::{Family, Index, Main, Name, Param, Sort, Stmt, Task};
 use std::alloc::AllocError;
 
 pub fn push_families(text: &mut String, families: &[Family]) -> Result<(), AllocError>
-    ensures { OnOk result (string_bytes text.new ≡ string_bytes text.old ++ flat_map family_text families.now) }
+    ensures { OnOk result (string_bytes text.new
+        ≡ string_bytes text.old ++ flat_map family_text families.now) }
 {
     for family in families {
         push_family(text, family)?;
@@ -20,7 +21,8 @@ pub fn push_families(text: &mut String, families: &[Family]) -> Result<(), Alloc
 }
 
 fn push_family(text: &mut String, family: &Family) -> Result<(), AllocError>
-    ensures { OnOk result (string_bytes text.new ≡ string_bytes text.old ++ family_text family.now) }
+    ensures { OnOk result (string_bytes text.new
+        ≡ string_bytes text.old ++ family_text family.now) }
 {
     let name = family.name.as_str();
     write!(text, "object {name}")?;
@@ -42,7 +44,8 @@ fn push_size(text: &mut String, family: &Family) -> Result<(), AllocError>
 
 /// Adds the number of members of a range.
 fn push_members(text: &mut String, family: &Family) -> Result<(), AllocError>
-    ensures { OnOk result (string_bytes text.new ≡ string_bytes text.old ++ members_text family.now) }
+    ensures { OnOk result (string_bytes text.new
+        ≡ string_bytes text.old ++ members_text family.now) }
 {
     if !family.many {
         return Ok(());
@@ -53,7 +56,8 @@ fn push_members(text: &mut String, family: &Family) -> Result<(), AllocError>
 
 /// Adds a word that may be missing.
 fn push_where(text: &mut String, there: bool, word: &str) -> Result<(), AllocError>
-    ensures { OnOk result (string_bytes text.new ≡ string_bytes text.old ++ where_set there word.now) }
+    ensures { OnOk result (string_bytes text.new
+        ≡ string_bytes text.old ++ where_set there word.now) }
 {
     if there { text.push_str(word) } else { Ok(()) }
 }
@@ -98,7 +102,8 @@ fn push_param(text: &mut String, param: &Param) -> Result<(), AllocError>
 
 /// Adds the parameters, the first behind `lead` and the others each behind a comma.
 fn push_params(text: &mut String, lead: &str, params: &[Param]) -> Result<(), AllocError>
-    ensures { OnOk result (string_bytes text.new ≡ string_bytes text.old ++ params_text lead.now params.now) }
+    ensures { OnOk result (string_bytes text.new
+        ≡ string_bytes text.old ++ params_text lead.now params.now) }
 {
     let mut before = lead;
     for param in params {
@@ -116,7 +121,8 @@ fn push_head(
     name: &Name,
     params: &[Param],
 ) -> Result<(), AllocError>
-    ensures { OnOk result (string_bytes text.new ≡ string_bytes text.old ++ task_head index.now name.now params.now) }
+    ensures { OnOk result (string_bytes text.new
+        ≡ string_bytes text.old ++ task_head index.now name.now params.now) }
 {
     let name = name.as_str();
     match index {
@@ -133,7 +139,8 @@ fn push_head(
 }
 
 pub fn push_tasks(text: &mut String, tasks: &[Task]) -> Result<(), AllocError>
-    ensures { OnOk result (string_bytes text.new ≡ string_bytes text.old ++ flat_map task_text tasks.now) }
+    ensures { OnOk result (string_bytes text.new
+        ≡ string_bytes text.old ++ flat_map task_text tasks.now) }
 {
     for task in tasks {
         push_task(text, task)?;
@@ -151,7 +158,8 @@ fn push_task(text: &mut String, task: &Task) -> Result<(), AllocError>
 }
 
 pub fn push_mains(text: &mut String, mains: &[Main]) -> Result<(), AllocError>
-    ensures { OnOk result (string_bytes text.new ≡ string_bytes text.old ++ flat_map main_text mains.now) }
+    ensures { OnOk result (string_bytes text.new
+        ≡ string_bytes text.old ++ flat_map main_text mains.now) }
 {
     for main in mains {
         push_main(text, main)?;

@@ -18,7 +18,8 @@ fn expr_level(e: &Expr) -> Level
 
 /// Adds the sign with one blank on each side.
 fn push_infix_sign(text: &mut String, op: BinOp) -> Result<(), AllocError>
-    ensures { OnOk result (string_bytes text.new ≡ string_bytes text.old ++ (codes " " ++ (sign_of op ++ codes " "))) }
+    ensures { OnOk result (string_bytes text.new
+        ≡ string_bytes text.old ++ (codes " " ++ (sign_of op ++ codes " "))) }
 {
     let sign = sign(op);
     write!(text, " {sign} ")
@@ -59,7 +60,8 @@ pub fn push_expr(text: &mut String, e: &Expr) -> Result<(), AllocError>
 
 #[cycle(expression)]
 fn push_operand(text: &mut String, grouped: bool, e: &Expr) -> Result<(), AllocError>
-    ensures { OnOk result (string_bytes text.new ≡ string_bytes text.old ++ operand_text grouped (expr_text e.now)) }
+    ensures { OnOk result (string_bytes text.new
+        ≡ string_bytes text.old ++ operand_text grouped (expr_text e.now)) }
 {
     if grouped {
         text.push('(')?;

@@ -21,7 +21,8 @@ fn push_blanks(text: &mut String, count: usize) -> Result<(), AllocError>
 
 /// Adds `N[E]`.
 fn push_element(text: &mut String, name: &Name, at: &Expr) -> Result<(), AllocError>
-    ensures { OnOk result (string_bytes text.new ≡ string_bytes text.old ++ element_text name.now at.now) }
+    ensures { OnOk result (string_bytes text.new
+        ≡ string_bytes text.old ++ element_text name.now at.now) }
 {
     text.push_str(name.as_str())?;
     text.push('[')?;
@@ -31,7 +32,8 @@ fn push_element(text: &mut String, name: &Name, at: &Expr) -> Result<(), AllocEr
 
 /// Adds ` = E;` and the line's end.
 fn push_value(text: &mut String, value: &Expr) -> Result<(), AllocError>
-    ensures { OnOk result (string_bytes text.new ≡ string_bytes text.old ++ (codes " = " ++ (expr_text value.now ++ codes ";\n"))) }
+    ensures { OnOk result (string_bytes text.new
+        ≡ string_bytes text.old ++ (codes " = " ++ (expr_text value.now ++ codes ";\n"))) }
 {
     text.push_str(" = ")?;
     push_expr(text, value)?;
@@ -40,7 +42,8 @@ fn push_value(text: &mut String, value: &Expr) -> Result<(), AllocError>
 
 /// Adds `E..E`.
 fn push_span(text: &mut String, from: &Expr, to: &Expr) -> Result<(), AllocError>
-    ensures { OnOk result (string_bytes text.new ≡ string_bytes text.old ++ span_text from.now to.now) }
+    ensures { OnOk result (string_bytes text.new
+        ≡ string_bytes text.old ++ span_text from.now to.now) }
 {
     push_expr(text, from)?;
     text.push_str("..")?;
@@ -48,7 +51,8 @@ fn push_span(text: &mut String, from: &Expr, to: &Expr) -> Result<(), AllocError
 }
 
 fn push_argument(text: &mut String, what: &ArgWhat) -> Result<(), AllocError>
-    ensures { OnOk result (string_bytes text.new ≡ string_bytes text.old ++ argument_text what.now) }
+    ensures { OnOk result (string_bytes text.new
+        ≡ string_bytes text.old ++ argument_text what.now) }
 {
     match what {
         ArgWhat::Value(e) => push_expr(text, e),
@@ -63,7 +67,8 @@ fn push_argument(text: &mut String, what: &ArgWhat) -> Result<(), AllocError>
 
 /// Adds the arguments, the first behind `lead` and the others each behind a comma.
 fn push_arguments(text: &mut String, lead: &str, args: &[Arg]) -> Result<(), AllocError>
-    ensures { OnOk result (string_bytes text.new ≡ string_bytes text.old ++ arguments_text lead.now args.now) }
+    ensures { OnOk result (string_bytes text.new
+        ≡ string_bytes text.old ++ arguments_text lead.now args.now) }
 {
     let mut before = lead;
     for arg in args {
@@ -76,7 +81,8 @@ fn push_arguments(text: &mut String, lead: &str, args: &[Arg]) -> Result<(), All
 
 /// Adds what stands between the parentheses of a fork.
 fn push_forked(text: &mut String, length: &Option<Expr>, args: &[Arg]) -> Result<(), AllocError>
-    ensures { OnOk result (string_bytes text.new ≡ string_bytes text.old ++ forked_text length.now args.now) }
+    ensures { OnOk result (string_bytes text.new
+        ≡ string_bytes text.old ++ forked_text length.now args.now) }
 {
     match length {
         None => push_arguments(text, "", args),
@@ -90,7 +96,8 @@ fn push_forked(text: &mut String, length: &Option<Expr>, args: &[Arg]) -> Result
 
 /// Adds `if E {` and the line's end.
 fn push_test(text: &mut String, test: &Expr) -> Result<(), AllocError>
-    ensures { OnOk result (string_bytes text.new ≡ string_bytes text.old ++ (codes "if " ++ (expr_text test.now ++ codes " {\n"))) }
+    ensures { OnOk result (string_bytes text.new
+        ≡ string_bytes text.old ++ (codes "if " ++ (expr_text test.now ++ codes " {\n"))) }
 {
     text.push_str("if ")?;
     push_expr(text, test)?;
@@ -99,7 +106,9 @@ fn push_test(text: &mut String, test: &Expr) -> Result<(), AllocError>
 
 /// Adds `for v in E..E {` and the line's end.
 fn push_turns(text: &mut String, name: &Name, from: &Expr, to: &Expr) -> Result<(), AllocError>
-    ensures { OnOk result (string_bytes text.new ≡ string_bytes text.old ++ (codes "for " ++ (name.now ++ (codes " in " ++ (span_text from.now to.now ++ codes " {\n"))))) }
+    ensures { OnOk result (string_bytes text.new
+        ≡ string_bytes text.old ++ (codes "for " ++ (name.now
+        ++ (codes " in " ++ (span_text from.now to.now ++ codes " {\n"))))) }
 {
     let name = name.as_str();
     write!(text, "for {name} in ")?;
@@ -109,7 +118,9 @@ fn push_turns(text: &mut String, name: &Name, from: &Expr, to: &Expr) -> Result<
 
 /// Adds ` op= E;` and the line's end.
 fn push_change(text: &mut String, op: Op, value: &Expr) -> Result<(), AllocError>
-    ensures { OnOk result (string_bytes text.new ≡ string_bytes text.old ++ (codes " " ++ (op_word op ++ (codes "= " ++ (expr_text value.now ++ codes ";\n"))))) }
+    ensures { OnOk result (string_bytes text.new
+        ≡ string_bytes text.old ++ (codes " "
+        ++ (op_word op ++ (codes "= " ++ (expr_text value.now ++ codes ";\n"))))) }
 {
     let word = word(op);
     write!(text, " {word}= ")?;
@@ -120,7 +131,8 @@ fn push_change(text: &mut String, op: Op, value: &Expr) -> Result<(), AllocError
 /// Adds the lines of a statement, the first behind `indent` blanks.
 #[cycle(statement)]
 fn push_what(text: &mut String, indent: usize, what: &What) -> Result<(), AllocError>
-    ensures { OnOk result (string_bytes text.new ≡ string_bytes text.old ++ text_of_what what.now indent) }
+    ensures { OnOk result (string_bytes text.new
+        ≡ string_bytes text.old ++ text_of_what what.now indent) }
 {
     push_blanks(text, indent)?;
     match what {
@@ -164,7 +176,8 @@ fn push_what(text: &mut String, indent: usize, what: &What) -> Result<(), AllocE
 /// Adds the `else` block of an `if` up to its last statement, or nothing where it is empty.
 #[cycle(statement)]
 fn push_else(text: &mut String, indent: usize, body: &[Stmt]) -> Result<(), AllocError>
-    ensures { OnOk result (string_bytes text.new ≡ string_bytes text.old ++ else_text (map text_of_stmt body.now) indent) }
+    ensures { OnOk result (string_bytes text.new
+        ≡ string_bytes text.old ++ else_text (map text_of_stmt body.now) indent) }
 {
     if body.is_empty() {
         return Ok(());
@@ -176,7 +189,8 @@ fn push_else(text: &mut String, indent: usize, body: &[Stmt]) -> Result<(), Allo
 
 /// Adds the line that ends a block.
 pub fn push_end(text: &mut String, indent: usize) -> Result<(), AllocError>
-    ensures { OnOk result (string_bytes text.new ≡ string_bytes text.old ++ (blanks indent ++ codes "}\n")) }
+    ensures { OnOk result (string_bytes text.new
+        ≡ string_bytes text.old ++ (blanks indent ++ codes "}\n")) }
 {
     push_blanks(text, indent)?;
     text.push_str("}\n")
@@ -185,7 +199,8 @@ pub fn push_end(text: &mut String, indent: usize) -> Result<(), AllocError>
 /// Adds the statements of a block whose `{` stands on a line behind `indent` blanks.
 #[cycle(statement)]
 pub fn push_block(text: &mut String, indent: usize, body: &[Stmt]) -> Result<(), AllocError>
-    ensures { OnOk result (string_bytes text.new ≡ string_bytes text.old ++ block_text (map text_of_stmt body.now) indent) }
+    ensures { OnOk result (string_bytes text.new
+        ≡ string_bytes text.old ++ block_text (map text_of_stmt body.now) indent) }
 {
     // so many blanks are more than memory holds
     let deeper = indent.checked_add(2).ok_or(AllocError)?;
