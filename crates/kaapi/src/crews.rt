@@ -52,8 +52,11 @@ fn run<R: Threads + Wait + Sync, G: Gate + Sync>(
     requires whole { length input.now ≡ inputs_of program.now.families }
     requires some { 1 ≤ workers }
     requires few { workers ≤ WORKERS }
-    ensures answers { IfOk result (λ x. answered_by x.0 ≡ answered_run program.now.families (outcome_of program.now input.now).outcome) }
-    ensures recorded { (job : List ℕ) → Opened job program.now input.now → IfOk result (λ x. Recorded (Opened job) workers x.0.exit x.1) }
+    ensures answers { IfOk result
+        (λ x. answered_by x.0
+        ≡ answered_run program.now.families (outcome_of program.now input.now).outcome) }
+    ensures recorded { (job : List ℕ) → Opened job program.now input.now
+        → IfOk result (λ x. Recorded (Opened job) workers x.0.exit x.1) }
 {
     let (ran, witness) = run_all(rt, alloc, program, input, workers, gate)?;
     let reply = reply_to_outcome(alloc, program, ran.outcome)?;

@@ -35,8 +35,10 @@ pub fn run_generated<R: Threads + Wait + Sync, K: Sink, G: Gate + Sync>(
 ) -> (Exit, Option<Record>)
     requires some { 1 ≤ workers }
     requires few { workers ≤ WORKERS }
-    ensures sent { SendsOrLacks faults (AnswersDemo job.kind job.size job.number) (over K.written K.faults sink.old sink.new) result.0 }
-    ensures recorded { Recorded (IsGenerated job.kind job.size job.number) workers result.0 result.1 }
+    ensures sent { SendsOrLacks faults (AnswersDemo job.kind job.size job.number)
+        (over K.written K.faults sink.old sink.new) result.0 }
+    ensures recorded { Recorded (IsGenerated job.kind job.size job.number) workers result.0
+        result.1 }
     ensures later { K.faults sink.old ≤ K.faults sink.new }
 {
     match demo_by_workers(rt, alloc, workers, job, gate) {
@@ -56,7 +58,8 @@ fn demo_by_workers<R: Threads + Wait + Sync, G: Gate + Sync>(
     requires some { 1 ≤ workers }
     requires few { workers ≤ WORKERS }
     ensures answers { IfOk result (λ x. AnswersDemo job.kind job.size job.number x.0) }
-    ensures recorded { IfOk result (λ x. Recorded (IsGenerated job.kind job.size job.number) workers x.0.exit x.1) }
+    ensures recorded { IfOk result
+        (λ x. Recorded (IsGenerated job.kind job.size job.number) workers x.0.exit x.1) }
 {
     generated_jobs_complete();
     let (program, input) = make(alloc, job.kind, job.size, job.number)?;

@@ -109,7 +109,9 @@ fn exit_of(line: &Line) -> Exit
 fn run(alloc: Global, way: Way, program: &Program, input: &[u64]) -> Result<Reply, NoMemory>
     requires accepted { IsAccepted program.now }
     requires whole { length input.now ≡ inputs_of program.now.families }
-    ensures { IfOk result (λ reply. answered_by reply ≡ answered_run program.now.families (outcome_of program.now input.now).outcome) }
+    ensures { IfOk result
+        (λ reply. answered_by reply
+        ≡ answered_run program.now.families (outcome_of program.now input.now).outcome) }
 {
     let outcome = outcome(alloc, way, program, input)?;
     reply_to_outcome(alloc, program, outcome)
@@ -122,8 +124,10 @@ pub fn reply_to_outcome(
     outcome: Outcome,
 ) -> Result<Reply, NoMemory>
     requires accepted { IsAccepted program.now }
-    requires whole { (rows : List ℕ) → outcome ≡ Rows rows → length rows ≡ elements_of program.now.families }
-    ensures answers { IfOk result (λ reply. answered_by reply ≡ answered_run program.now.families outcome) }
+    requires whole { (rows : List ℕ) → outcome ≡ Rows rows
+        → length rows ≡ elements_of program.now.families }
+    ensures answers { IfOk result
+        (λ reply. answered_by reply ≡ answered_run program.now.families outcome) }
     ensures ended { IfOk result (λ reply. ends_run reply.exit ≡ true) }
     ensures limit { IfOk result (λ reply. (reply.exit ≡ E.Limit) ↔ (outcome ≡ Limit)) }
 {
@@ -141,8 +145,11 @@ pub fn reply_to_outcome(
 fn outcome(alloc: Global, way: Way, program: &Program, input: &[u64]) -> Result<Outcome, NoMemory>
     requires accepted { IsAccepted program.now }
     requires whole { length input.now ≡ inputs_of program.now.families }
-    ensures outcome { IfOk result (λ outcome. outcome ≡ (outcome_of program.now input.now).outcome) }
-    ensures rows { IfOk result (λ outcome. (rows : List ℕ) → outcome ≡ Rows rows → length rows ≡ elements_of program.now.families) }
+    ensures outcome { IfOk result
+        (λ outcome. outcome ≡ (outcome_of program.now input.now).outcome) }
+    ensures rows { IfOk result
+        (λ outcome. (rows : List ℕ) → outcome ≡ Rows rows
+        → length rows ≡ elements_of program.now.families) }
 {
     match way {
         Way::Owner => Ok(run_owner(alloc, program, input)?.outcome),

@@ -25,7 +25,8 @@ pub fn send_generated<K: Sink>(
     sink: &mut K,
 ) -> Exit
     requires { IsSize kind size }
-    ensures sent { SendsOrLacks faults (λ (reply : Said Exit). reply ≡ generated kind size number) (over K.written K.faults sink.old sink.new) result }
+    ensures sent { SendsOrLacks faults (λ (reply : Said Exit). reply ≡ generated kind size number)
+        (over K.written K.faults sink.old sink.new) result }
     ensures later { K.faults sink.old ≤ K.faults sink.new }
 {
     match job_bytes(alloc, kind, size, number) {
@@ -36,7 +37,8 @@ pub fn send_generated<K: Sink>(
 
 /// Writes an answer of one line.
 pub fn tell<K: Sink>(alloc: Global, exit: Exit, line: &Line, sink: &mut K) -> Exit
-    ensures sent { SendsOrLacks faults (λ (reply : Said Exit). reply ≡ told exit line.now) (over K.written K.faults sink.old sink.new) result }
+    ensures sent { SendsOrLacks faults (λ (reply : Said Exit). reply ≡ told exit line.now)
+        (over K.written K.faults sink.old sink.new) result }
     ensures later { K.faults sink.old ≤ K.faults sink.new }
 {
     match line_bytes(alloc, line) {
@@ -47,7 +49,8 @@ pub fn tell<K: Sink>(alloc: Global, exit: Exit, line: &Line, sink: &mut K) -> Ex
 
 /// Writes the answer, and says how the call ends.
 pub fn send<K: Sink>(sink: &mut K, exit: Exit, text: &[u8]) -> Exit
-    ensures sent { Sends faults (record { exit = exit; text = text.now }) (over K.written K.faults sink.old sink.new) result }
+    ensures sent { Sends faults (record { exit = exit; text = text.now })
+        (over K.written K.faults sink.old sink.new) result }
     ensures later { K.faults sink.old ≤ K.faults sink.new }
 {
     match write_all(sink, text) {

@@ -29,8 +29,10 @@ pub fn answer_source<S: Source, K: Sink>(
     source: &mut S,
     sink: &mut K,
 ) -> Exit
-    ensures answers { ForJob (S.left source.old) (λ job. EndsWith faults (AnswersJob (AnswersAsked asked) job)
-        (over S.left S.faults source.old source.new) (over K.written K.faults sink.old sink.new) result) }
+    ensures answers { ForJob (S.left source.old)
+        (λ job. EndsWith faults (AnswersJob (AnswersAsked asked) job)
+        (over S.left S.faults source.old source.new)
+        (over K.written K.faults sink.old sink.new) result) }
     ensures source_later { S.faults source.old ≤ S.faults source.new }
     ensures sink_later { K.faults sink.old ≤ K.faults sink.new }
 {
@@ -51,8 +53,11 @@ pub fn run_source<R: Threads + Wait + Sync, S: Source, K: Sink, G: Gate + Sync>(
 ) -> (Exit, Option<Record>)
     requires some { 1 ≤ workers }
     requires few { workers ≤ WORKERS }
-    ensures answers { ForJob (S.left source.old) (λ job. EndsWith faults (AnswersJob AnswersRun job)
-        (over S.left S.faults source.old source.new) (over K.written K.faults sink.old sink.new) result.0 × Recorded (Opened job) workers result.0 result.1) }
+    ensures answers { ForJob (S.left source.old)
+        (λ job. EndsWith faults (AnswersJob AnswersRun job)
+        (over S.left S.faults source.old source.new)
+        (over K.written K.faults sink.old sink.new) result.0
+        × Recorded (Opened job) workers result.0 result.1) }
     ensures source_later { S.faults source.old ≤ S.faults source.new }
     ensures sink_later { K.faults sink.old ≤ K.faults sink.new }
 {
@@ -71,8 +76,10 @@ fn take_job<S: Source, K: Sink>(
     ensures told { IfOk result (λ job. Tells (S.left source.old) job.items) }
     ensures within { IfOk result (λ job. length job.items ≤ JOB) }
     ensures unwritten { IfOk result (λ job. sink.new ≡ sink.old) }
-    ensures ends { IfErr result (λ exit. ForJob (S.left source.old) (λ job. EndsWith faults (AnswersJob AnswersNone job)
-        (over S.left S.faults source.old source.new) (over K.written K.faults sink.old sink.new) exit)) }
+    ensures ends { IfErr result (λ exit. ForJob (S.left source.old)
+        (λ job. EndsWith faults (AnswersJob AnswersNone job)
+        (over S.left S.faults source.old source.new)
+        (over K.written K.faults sink.old sink.new) exit)) }
     ensures source_later { S.faults source.old ≤ S.faults source.new }
     ensures sink_later { K.faults sink.old ≤ K.faults sink.new }
 {
@@ -86,7 +93,8 @@ fn take_job<S: Source, K: Sink>(
 
 fn answer_job<K: Sink>(alloc: Global, asked: Asked, job: &[u8], sink: &mut K) -> Exit
     requires { length job.now ≤ JOB }
-    ensures sent { SendsOrLacks faults (AnswersAsked asked job.now) (over K.written K.faults sink.old sink.new) result }
+    ensures sent { SendsOrLacks faults (AnswersAsked asked job.now)
+        (over K.written K.faults sink.old sink.new) result }
     ensures later { K.faults sink.old ≤ K.faults sink.new }
 {
     match reply_to(alloc, asked, job) {
@@ -106,7 +114,8 @@ fn run_job<R: Threads + Wait + Sync, K: Sink, G: Gate + Sync>(
     requires short { length job.now ≤ JOB }
     requires some { 1 ≤ workers }
     requires few { workers ≤ WORKERS }
-    ensures sent { SendsOrLacks faults (AnswersRun job.now) (over K.written K.faults sink.old sink.new) result.0 }
+    ensures sent { SendsOrLacks faults (AnswersRun job.now)
+        (over K.written K.faults sink.old sink.new) result.0 }
     ensures recorded { Recorded (Opened job.now) workers result.0 result.1 }
     ensures later { K.faults sink.old ≤ K.faults sink.new }
 {

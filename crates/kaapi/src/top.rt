@@ -35,7 +35,8 @@ pub fn top<R: Threads + Wait + Sync, S: Source, K: Sink, G: Gate + Sync>(
     gate: &G,
 ) -> (Exit, Option<Record>)
     ensures headline { ForJob (S.left source.old) (λ job. Headline (texts_of words.now) job
-        (over S.left S.faults source.old source.new) (over K.written K.faults sink.old sink.new) result.0 result.1) }
+        (over S.left S.faults source.old source.new)
+        (over K.written K.faults sink.old sink.new) result.0 result.1) }
     ensures unread { asks_job (command_of (texts_of words.now)) ≡ false → source.new ≡ source.old }
     ensures source_later { S.faults source.old ≤ S.faults source.new }
     ensures sink_later { K.faults sink.old ≤ K.faults sink.new }
@@ -63,9 +64,12 @@ pub fn top_plain<S: Source, K: Sink>(
     source: &mut S,
     sink: &mut K,
 ) -> Exit
-    ensures answers { ForJob (S.left source.old) (λ job. EndsWith faults (PlainAnswers (texts_of words.now) job)
-        (over S.left S.faults source.old source.new) (over K.written K.faults sink.old sink.new) result) }
-    ensures unread { asks_job (plain (command_of (texts_of words.now))) ≡ false → source.new ≡ source.old }
+    ensures answers { ForJob (S.left source.old)
+        (λ job. EndsWith faults (PlainAnswers (texts_of words.now) job)
+        (over S.left S.faults source.old source.new)
+        (over K.written K.faults sink.old sink.new) result) }
+    ensures unread { asks_job (plain (command_of (texts_of words.now))) ≡ false
+        → source.new ≡ source.old }
     ensures source_later { S.faults source.old ≤ S.faults source.new }
     ensures sink_later { K.faults sink.old ≤ K.faults sink.new }
 {

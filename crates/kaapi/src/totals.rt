@@ -14,8 +14,10 @@ use kt_prog::{Outcome, Program, Ran};
 /// The totals of a run that came to rows.
 pub fn totals(program: &Program, ran: Ran) -> Line
     requires accepted { IsAccepted program.now }
-    requires rows { (rows : List ℕ) × (ran.outcome ≡ Rows rows) × (length rows ≡ elements_of program.now.families) }
-    ensures { (input : List ℕ) → ran ≡ outcome_of program.now input → result ≡ totals_of program.now input }
+    requires rows { (rows : List ℕ) × (ran.outcome ≡ Rows rows)
+        × (length rows ≡ elements_of program.now.families) }
+    ensures { (input : List ℕ) → ran ≡ outcome_of program.now input
+        → result ≡ totals_of program.now input }
 {
     few_objects();
     let Ran {

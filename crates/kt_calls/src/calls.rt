@@ -69,13 +69,15 @@ pub trait Run {
         requires crew { IsOfCrew (view self.old) }
         requires inside { IsRecord (view self.old) parent }
         requires may { MayPublish (view self.old) parent at frame fork child.now }
-        ensures published { HasPublished (view self.old) parent at frame fork child.now (view self.new) result };
+        ensures published { HasPublished (view self.old) parent at frame fork child.now
+            (view self.new) result };
 
     /// Claims a record of the seat's own region. A lost claim is a look at it.
     fn claim_own(&mut self, at: u32) -> Claim
         requires crew { IsOfCrew (view self.old) }
         requires inside { IsRecord (view self.old) at }
-        requires mine { (m : Spot) × IsMine (view self.old) at m × BeforeKnown (view self.old) m.path }
+        requires mine { (m : Spot) × IsMine (view self.old) at m
+            × BeforeKnown (view self.old) m.path }
         ensures claimed { Claimed (view self.old) at (view self.new) result }
         ensures few { AreFew (view self.new) };
 
@@ -83,7 +85,8 @@ pub trait Run {
     fn start(&mut self, at: u32)
         requires crew { IsOfCrew (view self.old) }
         requires inside { IsRecord (view self.old) at }
-        requires given { (m : Spot) × (rest : List Spot) × ((view self.old).tasks.given ≡ m ∷ rest) × (m.berth.at ≡ at) }
+        requires given { (m : Spot) × (rest : List Spot) × ((view self.old).tasks.given ≡ m ∷ rest)
+            × (m.berth.at ≡ at) }
         ensures started { (m : Spot) (rest : List Spot) → (view self.old).tasks.given ≡ m ∷ rest
             → view self.new ≡ starts (view self.old) m rest }
         ensures few { AreFew (view self.new) };
@@ -92,7 +95,8 @@ pub trait Run {
     fn finish(&mut self, at: u32)
         requires inside { IsRecord (view self.old) at }
         requires ended { MayFinish (view self.old) at }
-        ensures finished { (e : Execution) (rest : List Execution) → (view self.old).tasks.running ≡ e ∷ rest
+        ensures finished { (e : Execution) (rest : List Execution)
+            → (view self.old).tasks.running ≡ e ∷ rest
             → view self.new ≡ finishes (view self.old) e rest };
 
     /// Begins the loop of the running body, whose zeroing is done: all its positions are the own interval.
@@ -141,7 +145,8 @@ pub trait Run {
 
     /// Whether the run stops.
     fn stopped(&mut self) -> bool
-        ensures known { view self.new ≡ (if result then knows_stop (view self.old) else (view self.old)) };
+        ensures known { view self.new
+            ≡ (if result then knows_stop (view self.old) else (view self.old)) };
 
     /// The call of a task in hand.
     fn call_of(&mut self, at: u32) -> Call
@@ -181,9 +186,11 @@ pub trait Run {
     fn serve(&mut self, victim: u32, scan: &mut Scan)
         requires crew { IsOfCrew (view self.old) }
         requires victim { IsWorker (view self.old) victim }
-        requires leads { ((view self.old).desk.leads ≡ true) × ((view self.old).desk.victim ≡ victim) }
+        requires leads { ((view self.old).desk.leads ≡ true)
+            × ((view self.old).desk.victim ≡ victim) }
         requires none { ((view self.old).desk.held ≡ []) × ((view self.old).tasks.promised ≡ []) }
-        requires objects { (j : Setup) → (view self.old).setup ≡ Some j → objects_of j.program.families ≤ scan.old.objects }
+        requires objects { (j : Setup) → (view self.old).setup ≡ Some j
+            → objects_of j.program.families ≤ scan.old.objects }
         requires entries { RECORDS ≤ scan.old.entries }
         ensures served { Serves (view self.old) (view self.new) }
         ensures room { HasRoomOf scan.old scan.new };
@@ -194,13 +201,16 @@ pub trait Run {
         requires busy { (view self.old).desk.free ≡ false }
         ensures looked { (o : Post) × IsPost o × Settled o (view self.old) (view self.new) result }
         ensures inside { (at : _) → result ≡ A.Task at → IsRecord (view self.old) at }
-        ensures piece_inside { (at : _) (piece : _) → result ≡ A.Piece at piece → IsRecord (view self.old) at };
+        ensures piece_inside { (at : _) (piece : _) → result ≡ A.Piece at piece
+            → IsRecord (view self.old) at };
 
     /// Takes the request back where nobody holds it, and else looks.
     fn withdraw(&mut self) -> Answer
         requires crew { IsOfCrew (view self.old) }
         requires busy { (view self.old).desk.free ≡ false }
-        ensures withdrew { (o : Post) × IsPost o × Withdrew o (view self.old) (view self.new) result }
+        ensures withdrew { (o : Post) × IsPost o
+            × Withdrew o (view self.old) (view self.new) result }
         ensures inside { (at : _) → result ≡ A.Task at → IsRecord (view self.old) at }
-        ensures piece_inside { (at : _) (piece : _) → result ≡ A.Piece at piece → IsRecord (view self.old) at };
+        ensures piece_inside { (at : _) (piece : _) → result ≡ A.Piece at piece
+            → IsRecord (view self.old) at };
 }

@@ -18,7 +18,8 @@ fn serve_if_free<R: Run>(run: &mut R, scan: &mut Scan)
     requires free { (R.view run.old).desk.free ≡ false }
     requires leads { (R.view run.old).desk.leads ≡ false }
     requires none { (R.view run.old).tasks.promised ≡ [] }
-    requires objects { (j : Setup) → (R.view run.old).setup ≡ Some j → objects_of j.program.families ≤ scan.old.objects }
+    requires objects { (j : Setup) → (R.view run.old).setup ≡ Some j
+        → objects_of j.program.families ≤ scan.old.objects }
     requires entries { RECORDS ≤ scan.old.entries }
     ensures served { Asks (R.view run.old) (R.view run.new) }
     ensures room { HasRoomOf scan.old scan.new }

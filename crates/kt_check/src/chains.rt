@@ -45,7 +45,8 @@ impl Model for Chains {
 
     ghost view = { λ chains. take chains.len chains.hashes };
 
-    ghost invariant = { λ chains. (chains.len ≤ COVERED) × IsLinked (take chains.len chains.hashes) chains.heads chains.next 0 };
+    ghost invariant = { λ chains. (chains.len ≤ COVERED)
+        × IsLinked (take chains.len chains.hashes) chains.heads chains.next 0 };
 }
 
 impl Chains {

@@ -48,11 +48,15 @@ impl<'a> Model for Directory<'a> {
 
     ghost view = { λ d. d.program.now };
 
-    ghost invariant = { λ d. (d.families ≡ take COVERED (map hash_family d.program.now.families)) × (length d.families ≤ length d.program.now.families)
-        × (d.tasks ≡ take COVERED (map hash_task d.program.now.tasks)) × (length d.tasks ≤ length d.program.now.tasks)
-        × (d.is_from ≡ true → families_from d.from (drop (length d.families) d.program.now.families) ≡ true)
+    ghost invariant = { λ d. (d.families ≡ take COVERED (map hash_family d.program.now.families))
+        × (length d.families ≤ length d.program.now.families)
+        × (d.tasks ≡ take COVERED (map hash_task d.program.now.tasks))
+        × (length d.tasks ≤ length d.program.now.tasks)
+        × (d.is_from ≡ true
+        → families_from d.from (drop (length d.families) d.program.now.families) ≡ true)
         × (d.is_from ≡ true → tasks_from d.from (drop (length d.tasks) d.program.now.tasks) ≡ true)
-        × Tells d.families_beyond (map name_of_family (drop (length d.families) d.program.now.families))
+        × Tells d.families_beyond
+        (map name_of_family (drop (length d.families) d.program.now.families))
         × Tells d.tasks_beyond (map name_of_task (drop (length d.tasks) d.program.now.tasks)) };
 }
 

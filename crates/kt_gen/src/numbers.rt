@@ -19,7 +19,8 @@ pub(crate) struct Drawing {
 impl Drawing {
     /// All numbers, in order.
     pub(crate) fn numbers(self, alloc: Global) -> Result<Vec<u64>, NoMemory>
-        ensures { IfOk result (λ numbers. numbers.items ≡ numbers_of self.kind self.size self.number) }
+        ensures { IfOk result
+            (λ numbers. numbers.items ≡ numbers_of self.kind self.size self.number) }
     {
         let mut numbers = Vec::new(alloc);
         for member in 0..self.members() {
@@ -31,7 +32,8 @@ impl Drawing {
     /// Their lines.
     pub(crate) fn lines(self, alloc: Global, numbers: &[u64]) -> Result<Vec<u8>, NoMemory>
         requires { numbers.now ≡ numbers_of self.kind self.size self.number }
-        ensures { IfOk result (λ text. text.items ≡ lines_text (rows_of self.kind self.size self.number)) }
+        ensures { IfOk result
+            (λ text. text.items ≡ lines_text (rows_of self.kind self.size self.number)) }
     {
         let mut text = String::new(alloc);
         let mut rest = numbers;
@@ -69,7 +71,9 @@ impl Drawing {
     /// Draws the numbers of a row.
     fn push_row(self, numbers: &mut Vec<u64>, member: u64) -> Result<(), AllocError>
         requires { member < members_of self.kind self.size }
-        ensures { OnOk result (numbers.new.items ≡ numbers.old.items ++ row_of self.kind self.size self.number member) }
+        ensures { OnOk result
+            (numbers.new.items
+            ≡ numbers.old.items ++ row_of self.kind self.size self.number member) }
     {
         for place in 0..self.width() as u64 {
             numbers.push(self.element(member, place))?;

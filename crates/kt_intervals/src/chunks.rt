@@ -20,9 +20,12 @@ pub struct Halfway<R: Run> {
 
 /// Runs the index behind the first `done` ones of a chunk.
 fn run_next<R: Run>(seat: Halfway<R>, chunk: Chunk, done: u32) -> Halfway<R>
-    requires { (o : Origin) × (left : ℕ) × IsRunWith o chunk.program.now chunk.firsts.now chunk.call.now chunk.at
+    requires { (o : Origin) × (left : ℕ)
+        × IsRunWith o chunk.program.now chunk.firsts.now chunk.call.now chunk.at
         × IsWithin o chunk.from done (suc left) (R.view seat.run) seat.fault }
-    ensures { (o : Origin) (left : ℕ) → IsRunWith o chunk.entry.program.now chunk.entry.firsts.now chunk.entry.call.now chunk.entry.at
+    ensures { (o : Origin) (left : ℕ)
+        → IsRunWith o chunk.entry.program.now chunk.entry.firsts.now chunk.entry.call.now
+        chunk.entry.at
         → IsWithin o chunk.entry.from done (suc left) (R.view seat.run) seat.fault
         → IsWithin o chunk.entry.from (done + 1) left (R.view result.run) result.fault }
 {
@@ -40,7 +43,9 @@ fn run_next<R: Run>(seat: Halfway<R>, chunk: Chunk, done: u32) -> Halfway<R>
 fn run_all<R: Run>(seat: Halfway<R>, chunk: Chunk, count: u32) -> Halfway<R>
     requires { (o : Origin) × IsRunWith o chunk.program.now chunk.firsts.now chunk.call.now chunk.at
         × IsWithin o chunk.from 0 count (R.view seat.run) seat.fault }
-    ensures { (o : Origin) → IsRunWith o chunk.entry.program.now chunk.entry.firsts.now chunk.entry.call.now chunk.entry.at
+    ensures { (o : Origin)
+        → IsRunWith o chunk.entry.program.now chunk.entry.firsts.now chunk.entry.call.now
+        chunk.entry.at
         → IsWithin o chunk.entry.from 0 count (R.view seat.run) seat.fault
         → IsWithin o chunk.entry.from count 0 (R.view result.run) result.fault }
 {

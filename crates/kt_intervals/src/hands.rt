@@ -47,7 +47,9 @@ impl<'a, R: Run, B: Began> Ops for IndexHands<'a, R, B> {
     ghost use Rattle.std.specs.Prelude.{◌≡◌};
     ghost use Rattle.kt_intervals.specs.Indexes.{StandsIn};
 
-    ghost at = { λ h p job answers count. StandsIn B.start (record { view = R.view h.run; program = h.program.now; firsts = h.firsts.now }) p job answers count };
+    ghost at = { λ h p job answers count. StandsIn B.start
+        (record { view = R.view h.run; program = h.program.now; firsts = h.firsts.now })
+        p job answers count };
 
     ghost goes = { λ x operation y. Unit {0} };
 

@@ -38,7 +38,9 @@ pub struct Gone<R: Run> {
 pub fn go<R: Run, B: Began>(run: R, chunk: Chunk, index: u32) -> Gone<R>
     requires accepted { IsAccepted chunk.program.now }
     requires fits { FitsJob chunk.program.now (Index chunk.call.now index) }
-    requires stands { StandsIn B.start (record { view = R.view run; program = chunk.program.now; firsts = chunk.firsts.now }) chunk.program.now (Index chunk.call.now index) [] 0 }
+    requires stands { StandsIn B.start
+        (record { view = R.view run; program = chunk.program.now; firsts = chunk.firsts.now })
+        chunk.program.now (Index chunk.call.now index) [] 0 }
     ensures { GoneSo B.start (R.view result.run) result.ended }
 {
     let mut hands: IndexHands<R, B> = IndexHands {
@@ -57,7 +59,8 @@ pub fn fault_of<R: Run>(run: &mut R, at: u32, index: u32, ended: Ended) -> Optio
     requires inside { IsRecord (R.view run.old) at }
     requires held { (m : Spot) × IsHeld (R.view run.old) at m }
     ensures climbed { HasClimbed (R.view run.old) (R.view run.new) }
-    ensures fault { (m : Spot) → IsHeld (R.view run.old) at m → result ≡ index_fault m.path index (fault_with ended) }
+    ensures fault { (m : Spot) → IsHeld (R.view run.old) at m
+        → result ≡ index_fault m.path index (fault_with ended) }
 {
     match ended {
         Ended::Fault(fault, line) => {

@@ -35,7 +35,8 @@ pub fn run_interval<R: Run, W: Wait>(
     requires home { (R.view run).loops.home ≡ suc at }
     requires none_taken { (R.view run).loops.taken ≡ [] }
     ensures drained { Drains at (R.view run) (R.view result.run) fault result.fault }
-    ensures ends { MatchBool result.empty ((R.view result.run).loops.free ≡ true) ((R.view result.run).seen.stop ≡ true) }
+    ensures ends { MatchBool result.empty ((R.view result.run).loops.free ≡ true)
+        ((R.view result.run).seen.stop ≡ true) }
 {
     let mut now = Halfway { run, fault };
     for _ in rt.forever() {

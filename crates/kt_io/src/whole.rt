@@ -57,14 +57,17 @@ pub fn read_all<S: Source>(
     source: &mut S,
     limit: usize,
 ) -> Result<Vec<u8>, ReadError>
-    ensures ok { IfOk result (λ bytes. TakesAll (S.left source.old) (S.left source.new) bytes.items) }
+    ensures ok { IfOk result
+        (λ bytes. TakesAll (S.left source.old) (S.left source.new) bytes.items) }
     ensures within { IfOk result (λ bytes. length bytes.items ≤ limit) }
-    ensures failed { IsErrOf result ReadError.Failed → Rose (S.faults source.old) (S.faults source.new) }
+    ensures failed { IsErrOf result ReadError.Failed
+        → Rose (S.faults source.old) (S.faults source.new) }
     ensures too_long { IsErrOf result ReadError.TooLong → HasMoreThan limit (S.left source.old) }
 
     // Whatever it answers.
     ensures later { S.faults source.old ≤ S.faults source.new }
-    ensures taken { TakesWithin limit (IsErrOf result ReadError.TooLong) (S.left source.old) (S.left source.new) }
+    ensures taken { TakesWithin limit (IsErrOf result ReadError.TooLong) (S.left source.old)
+        (S.left source.new) }
     ensures reads { S.calls source.new ≤ S.calls source.old + limit + 1 }
 {
     let mut bytes = Vec::new(alloc);

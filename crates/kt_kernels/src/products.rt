@@ -26,7 +26,8 @@ fn element<S: Semiring>(row: &[u64], b: &[u64], width: usize, column: usize) -> 
 fn elements<S: Semiring>(row: &[u64], b: &[u64], width: usize, column: usize) -> u64x8
     requires shape { length b.now ≡ length row.now * width }
     requires within { column + LANES ≤ width }
-    ensures { result ≡ map (element_of S.plus S.times S.ZERO row.now b.now width) (range_with_len column LANES) }
+    ensures { result
+        ≡ map (element_of S.plus S.times S.ZERO row.now b.now width) (range_with_len column LANES) }
 {
     let mut sums = u64x8::splat(S::ZERO);
     for (k, x) in row.iter().enumerate() {
@@ -38,7 +39,9 @@ fn elements<S: Semiring>(row: &[u64], b: &[u64], width: usize, column: usize) ->
 /// Writes a row of the product.
 fn multiply_row<S: Semiring>(row: &[u64], b: &[u64], out: &mut [u64])
     requires { length b.now ≡ length row.now * length out.old }
-    ensures { out.new ≡ map (element_of S.plus S.times S.ZERO row.now b.now (length out.old)) (range_with_len 0 (length out.old)) }
+    ensures { out.new
+        ≡ map (element_of S.plus S.times S.ZERO row.now b.now (length out.old))
+        (range_with_len 0 (length out.old)) }
 {
     let width = out.len();
     let whole = width / LANES;

@@ -27,7 +27,8 @@ fn behind(row: &[u64], right: u64, at: usize) -> u64
 fn weighted(previous: u64x8, here: u64x8, behind: u64) -> u64x8
     ensures lanes { length result ≡ LANES }
     ensures values { (j : ℕ) → j < LANES → slice_index result j
-        ≡ (slice_index (slice_index previous 7 ∷ here) j + 2 * slice_index here j + slice_index (here ++ behind ∷ []) (j + 1)) % 2 ^ 64 }
+        ≡ (slice_index (slice_index previous 7 ∷ here) j + 2 * slice_index here j
+        + slice_index (here ++ behind ∷ []) (j + 1)) % 2 ^ 64 }
 {
     let befores = previous.shuffle(here, [7, 8, 9, 10, 11, 12, 13, 14]);
     let behinds = here.shuffle(u64x8::splat(behind), [1, 2, 3, 4, 5, 6, 7, 8]);

@@ -23,7 +23,8 @@ pub enum Unopened {
 /// The accepted program of the job, and where its data begin, which are not looked at.
 pub fn open_program(alloc: Global, job: &[u8]) -> Result<(Program, usize), Unopened>
     requires { length job.now < u32.MAX }
-    ensures opened { IfOk result (λ opened. Opens job.now opened.0 opened.1 (inputs_of opened.0.families)) }
+    ensures opened { IfOk result
+        (λ opened. Opens job.now opened.0 opened.1 (inputs_of opened.0.families)) }
     ensures inside { IfOk result (λ opened. opened.1 ≤ length job.now) }
     ensures unopened { IfErr result (IsNoProgram job.now) }
 {

@@ -58,8 +58,8 @@ impl Pool {
             ≡ layout_of (setup_of program.now input.now workers)) }
         ensures words { IfOk result (λ r. (run_table r.0).table.shared.table_id.words
             ≡ total_of (run_table r.0).layout) }
-        ensures opening { IfOk result (λ r.
-            IsOpening (setup_of program.now input.now workers) (run_table r.0).table.shared.key.items) }
+        ensures opening { IfOk result (λ r. IsOpening (setup_of program.now input.now workers)
+            (run_table r.0).table.shared.key.items) }
         ensures seats { IfOk result (λ r.
             AreSeatsOf (setup_of program.now input.now workers) (run_table r.0) r.1.items) }
         ensures views { IfOk result (λ r.

@@ -30,7 +30,8 @@ fn hired_eight<'a, 't, H: Home, W: Wait>(
     mut room: Vec<Tools>,
 ) -> Crowd
     requires home { H.table ≡ Some common.table.now.table.shared.table_id }
-    requires seats { All (IsUnmoved common.table.now common.program.now) seats.items × (length seats.items ≡ 8) }
+    requires seats { All (IsUnmoved common.table.now common.program.now) seats.items
+        × (length seats.items ≡ 8) }
     requires room { All (IsRoomy common.program.now) room.items × (length room.items ≡ 8) }
     requires accepted { IsAccepted common.program.now }
     requires firsts { HasFirsts common.program.now.families common.firsts.now }
@@ -60,7 +61,8 @@ fn hired_eight<'a, 't, H: Home, W: Wait>(
 
 /// The same at a table whose seats have made no step.
 pub fn play_eight<W: Wait>(rt: &W, common: Common, seats: Vec<Seat>, room: Vec<Tools>) -> Crowd
-    requires seats { (j : Setup) × AreSeatsOf j common.table.now seats.items × HaveNotStepped j seats.items × (j.workers ≡ 8) × (j.program ≡ common.program.now) }
+    requires seats { (j : Setup) × AreSeatsOf j common.table.now seats.items
+        × HaveNotStepped j seats.items × (j.workers ≡ 8) × (j.program ≡ common.program.now) }
     requires room { All (IsRoomy common.program.now) room.items × (length room.items ≡ 8) }
     requires accepted { IsAccepted common.program.now }
     requires firsts { HasFirsts common.program.now.families common.firsts.now }

@@ -38,8 +38,10 @@ pub fn stands<'a, 't, H: Home>(
     tools: Tools,
     stage: Stage,
 ) -> Driven<'a, 't, H>
-    requires { IsDriven worker.run.hand.seat.token.me.0 worker.program.now worker.firsts.now worker.tally tools stage }
-    ensures { IsDriven result.worker.run.hand.seat.token.me.0 result.worker.program.now result.worker.firsts.now result.worker.tally result.tools result.stage }
+    requires { IsDriven worker.run.hand.seat.token.me.0 worker.program.now worker.firsts.now
+        worker.tally tools stage }
+    ensures { IsDriven result.worker.run.hand.seat.token.me.0 result.worker.program.now
+        result.worker.firsts.now result.worker.tally result.tools result.stage }
 {
     Driven {
         worker,
@@ -54,7 +56,8 @@ pub fn hired<'a, 't, H: Home>(common: Common<'a, 't>, seat: Seat, tools: Tools) 
     requires home { H.table ≡ Some common.table.now.table.shared.table_id }
     requires equipped { IsEquipped common.program.now common.firsts.now tools }
     requires empty { tools.stack.levels ≡ [] }
-    ensures { IsDriven result.worker.run.hand.seat.token.me.0 result.worker.program.now result.worker.firsts.now result.worker.tally result.tools result.stage }
+    ensures { IsDriven result.worker.run.hand.seat.token.me.0 result.worker.program.now
+        result.worker.firsts.now result.worker.tally result.tools result.stage }
 {
     let hand = Hand {
         table: common.table,
@@ -100,8 +103,11 @@ fn turned<'a, 't, H: Home>(
     more: bool,
 ) -> Driven<'a, 't, H>
     requires equipped { IsEquipped worker.program.now worker.firsts.now tools }
-    requires turns { (v : View) × Turns v worker.run.hand.seat.token.me.0 worker.program.now worker.tally tools.stack.levels more }
-    ensures { IsDriven result.worker.run.hand.seat.token.me.0 result.worker.program.now result.worker.firsts.now result.worker.tally result.tools result.stage }
+    requires turns { (v : View)
+        × Turns v worker.run.hand.seat.token.me.0 worker.program.now worker.tally tools.stack.levels
+        more }
+    ensures { IsDriven result.worker.run.hand.seat.token.me.0 result.worker.program.now
+        result.worker.firsts.now result.worker.tally result.tools result.stage }
 {
     if more {
         return stands(worker, tools, Stage::Resting);
@@ -111,8 +117,10 @@ fn turned<'a, 't, H: Home>(
 
 /// The first turn.
 pub fn begins<'a, 't, H: Home, W: Wait>(rt: &W, driven: Driven<'a, 't, H>) -> Driven<'a, 't, H>
-    requires { IsDriven driven.worker.run.hand.seat.token.me.0 driven.worker.program.now driven.worker.firsts.now driven.worker.tally driven.tools driven.stage }
-    ensures { IsDriven result.worker.run.hand.seat.token.me.0 result.worker.program.now result.worker.firsts.now result.worker.tally result.tools result.stage }
+    requires { IsDriven driven.worker.run.hand.seat.token.me.0 driven.worker.program.now
+        driven.worker.firsts.now driven.worker.tally driven.tools driven.stage }
+    ensures { IsDriven result.worker.run.hand.seat.token.me.0 result.worker.program.now
+        result.worker.firsts.now result.worker.tally result.tools result.stage }
 {
     let Driven {
         worker,
@@ -134,8 +142,10 @@ fn posts<'a, 't, H: Home>(
     tools: Tools,
 ) -> Driven<'a, 't, H>
     requires equipped { IsEquipped worker.program.now worker.firsts.now tools }
-    requires calm { Calm worker.run.hand.seat.token.me.0 worker.program.now worker.tally tools.stack.levels }
-    ensures { IsDriven result.worker.run.hand.seat.token.me.0 result.worker.program.now result.worker.firsts.now result.worker.tally result.tools result.stage }
+    requires calm { Calm worker.run.hand.seat.token.me.0 worker.program.now worker.tally
+        tools.stack.levels }
+    ensures { IsDriven result.worker.run.hand.seat.token.me.0 result.worker.program.now
+        result.worker.firsts.now result.worker.tally result.tools result.stage }
 {
     worker.run.post(0);
     stands(worker, tools, Stage::Asking)
@@ -143,8 +153,10 @@ fn posts<'a, 't, H: Home>(
 
 /// Asks at worker 0.
 pub fn asks<'a, 't, H: Home>(driven: Driven<'a, 't, H>) -> Driven<'a, 't, H>
-    requires { IsDriven driven.worker.run.hand.seat.token.me.0 driven.worker.program.now driven.worker.firsts.now driven.worker.tally driven.tools driven.stage }
-    ensures { IsDriven result.worker.run.hand.seat.token.me.0 result.worker.program.now result.worker.firsts.now result.worker.tally result.tools result.stage }
+    requires { IsDriven driven.worker.run.hand.seat.token.me.0 driven.worker.program.now
+        driven.worker.firsts.now driven.worker.tally driven.tools driven.stage }
+    ensures { IsDriven result.worker.run.hand.seat.token.me.0 result.worker.program.now
+        result.worker.firsts.now result.worker.tally result.tools result.stage }
 {
     let Driven {
         worker,
@@ -160,8 +172,10 @@ pub fn asks<'a, 't, H: Home>(driven: Driven<'a, 't, H>) -> Driven<'a, 't, H>
 
 /// Tries to lead those that ask there.
 pub fn leads<'a, 't, H: Home>(driven: Driven<'a, 't, H>) -> Driven<'a, 't, H>
-    requires { IsDriven driven.worker.run.hand.seat.token.me.0 driven.worker.program.now driven.worker.firsts.now driven.worker.tally driven.tools driven.stage }
-    ensures { IsDriven result.worker.run.hand.seat.token.me.0 result.worker.program.now result.worker.firsts.now result.worker.tally result.tools result.stage }
+    requires { IsDriven driven.worker.run.hand.seat.token.me.0 driven.worker.program.now
+        driven.worker.firsts.now driven.worker.tally driven.tools driven.stage }
+    ensures { IsDriven result.worker.run.hand.seat.token.me.0 result.worker.program.now
+        result.worker.firsts.now result.worker.tally result.tools result.stage }
 {
     let Driven {
         mut worker,
@@ -179,8 +193,10 @@ pub fn leads<'a, 't, H: Home>(driven: Driven<'a, 't, H>) -> Driven<'a, 't, H>
 
 /// Serves them.
 pub fn serves<'a, 't, H: Home>(driven: Driven<'a, 't, H>) -> Driven<'a, 't, H>
-    requires { IsDriven driven.worker.run.hand.seat.token.me.0 driven.worker.program.now driven.worker.firsts.now driven.worker.tally driven.tools driven.stage }
-    ensures { IsDriven result.worker.run.hand.seat.token.me.0 result.worker.program.now result.worker.firsts.now result.worker.tally result.tools result.stage }
+    requires { IsDriven driven.worker.run.hand.seat.token.me.0 driven.worker.program.now
+        driven.worker.firsts.now driven.worker.tally driven.tools driven.stage }
+    ensures { IsDriven result.worker.run.hand.seat.token.me.0 result.worker.program.now
+        result.worker.firsts.now result.worker.tally result.tools result.stage }
 {
     let Driven {
         mut worker,
@@ -198,8 +214,10 @@ pub fn serves<'a, 't, H: Home>(driven: Driven<'a, 't, H>) -> Driven<'a, 't, H>
 
 /// Looks for the answer.
 pub fn looks<'a, 't, H: Home>(driven: Driven<'a, 't, H>) -> Driven<'a, 't, H>
-    requires { IsDriven driven.worker.run.hand.seat.token.me.0 driven.worker.program.now driven.worker.firsts.now driven.worker.tally driven.tools driven.stage }
-    ensures { IsDriven result.worker.run.hand.seat.token.me.0 result.worker.program.now result.worker.firsts.now result.worker.tally result.tools result.stage }
+    requires { IsDriven driven.worker.run.hand.seat.token.me.0 driven.worker.program.now
+        driven.worker.firsts.now driven.worker.tally driven.tools driven.stage }
+    ensures { IsDriven result.worker.run.hand.seat.token.me.0 result.worker.program.now
+        result.worker.firsts.now result.worker.tally result.tools result.stage }
 {
     let Driven {
         mut worker,
@@ -231,8 +249,10 @@ fn stage_of(answer: Answer) -> Stage
 
 /// Starts the task that it was given.
 pub fn starts<'a, 't, H: Home>(driven: Driven<'a, 't, H>) -> Driven<'a, 't, H>
-    requires { IsDriven driven.worker.run.hand.seat.token.me.0 driven.worker.program.now driven.worker.firsts.now driven.worker.tally driven.tools driven.stage }
-    ensures { IsDriven result.worker.run.hand.seat.token.me.0 result.worker.program.now result.worker.firsts.now result.worker.tally result.tools result.stage }
+    requires { IsDriven driven.worker.run.hand.seat.token.me.0 driven.worker.program.now
+        driven.worker.firsts.now driven.worker.tally driven.tools driven.stage }
+    ensures { IsDriven result.worker.run.hand.seat.token.me.0 result.worker.program.now
+        result.worker.firsts.now result.worker.tally result.tools result.stage }
 {
     let Driven {
         mut worker,
@@ -250,8 +270,10 @@ pub fn starts<'a, 't, H: Home>(driven: Driven<'a, 't, H>) -> Driven<'a, 't, H>
 
 /// Runs the body of the task that it has begun.
 pub fn runs<'a, 't, H: Home, W: Wait>(rt: &W, driven: Driven<'a, 't, H>) -> Driven<'a, 't, H>
-    requires { IsDriven driven.worker.run.hand.seat.token.me.0 driven.worker.program.now driven.worker.firsts.now driven.worker.tally driven.tools driven.stage }
-    ensures { IsDriven result.worker.run.hand.seat.token.me.0 result.worker.program.now result.worker.firsts.now result.worker.tally result.tools result.stage }
+    requires { IsDriven driven.worker.run.hand.seat.token.me.0 driven.worker.program.now
+        driven.worker.firsts.now driven.worker.tally driven.tools driven.stage }
+    ensures { IsDriven result.worker.run.hand.seat.token.me.0 result.worker.program.now
+        result.worker.firsts.now result.worker.tally result.tools result.stage }
 {
     let Driven {
         worker,

@@ -13,8 +13,10 @@ use kt_worker::{Level, Tools, Worker, finish};
 
 /// Claims the next entry of the topmost frame.
 pub fn claims<'a, 't, H: Home>(driven: Driven<'a, 't, H>) -> Driven<'a, 't, H>
-    requires { IsDriven driven.worker.run.hand.seat.token.me.0 driven.worker.program.now driven.worker.firsts.now driven.worker.tally driven.tools driven.stage }
-    ensures { IsDriven result.worker.run.hand.seat.token.me.0 result.worker.program.now result.worker.firsts.now result.worker.tally result.tools result.stage }
+    requires { IsDriven driven.worker.run.hand.seat.token.me.0 driven.worker.program.now
+        driven.worker.firsts.now driven.worker.tally driven.tools driven.stage }
+    ensures { IsDriven result.worker.run.hand.seat.token.me.0 result.worker.program.now
+        result.worker.firsts.now result.worker.tally result.tools result.stage }
 {
     let Driven {
         worker,
@@ -36,8 +38,10 @@ fn claims_next<'a, 't, H: Home>(
     level: Level,
 ) -> Driven<'a, 't, H>
     requires equipped { IsEquipped worker.program.now worker.firsts.now tools }
-    requires calm { Calm worker.run.hand.seat.token.me.0 worker.program.now worker.tally (level ∷ tools.stack.levels) }
-    ensures { IsDriven result.worker.run.hand.seat.token.me.0 result.worker.program.now result.worker.firsts.now result.worker.tally result.tools result.stage }
+    requires calm { Calm worker.run.hand.seat.token.me.0 worker.program.now worker.tally
+        (level ∷ tools.stack.levels) }
+    ensures { IsDriven result.worker.run.hand.seat.token.me.0 result.worker.program.now
+        result.worker.firsts.now result.worker.tally result.tools result.stage }
 {
     if level.next >= level.count {
         tools.stack.push(level);
@@ -54,8 +58,10 @@ fn claims_next<'a, 't, H: Home>(
 
 /// Looks at the next entry of the topmost frame, and goes past it where it is finished.
 pub fn passes<'a, 't, H: Home>(driven: Driven<'a, 't, H>) -> Driven<'a, 't, H>
-    requires { IsDriven driven.worker.run.hand.seat.token.me.0 driven.worker.program.now driven.worker.firsts.now driven.worker.tally driven.tools driven.stage }
-    ensures { IsDriven result.worker.run.hand.seat.token.me.0 result.worker.program.now result.worker.firsts.now result.worker.tally result.tools result.stage }
+    requires { IsDriven driven.worker.run.hand.seat.token.me.0 driven.worker.program.now
+        driven.worker.firsts.now driven.worker.tally driven.tools driven.stage }
+    ensures { IsDriven result.worker.run.hand.seat.token.me.0 result.worker.program.now
+        result.worker.firsts.now result.worker.tally result.tools result.stage }
 {
     let Driven {
         worker,
@@ -77,8 +83,10 @@ fn passes_next<'a, 't, H: Home>(
     level: Level,
 ) -> Driven<'a, 't, H>
     requires equipped { IsEquipped worker.program.now worker.firsts.now tools }
-    requires calm { Calm worker.run.hand.seat.token.me.0 worker.program.now worker.tally (level ∷ tools.stack.levels) }
-    ensures { IsDriven result.worker.run.hand.seat.token.me.0 result.worker.program.now result.worker.firsts.now result.worker.tally result.tools result.stage }
+    requires calm { Calm worker.run.hand.seat.token.me.0 worker.program.now worker.tally
+        (level ∷ tools.stack.levels) }
+    ensures { IsDriven result.worker.run.hand.seat.token.me.0 result.worker.program.now
+        result.worker.firsts.now result.worker.tally result.tools result.stage }
 {
     if level.next >= level.count {
         tools.stack.push(level);
@@ -103,8 +111,10 @@ fn passes_next<'a, 't, H: Home>(
 
 /// Finishes the task of the topmost frame, if all its entries are known finished, or it is a loop of which no index is left.
 pub fn finishes<'a, 't, H: Home>(driven: Driven<'a, 't, H>) -> Driven<'a, 't, H>
-    requires { IsDriven driven.worker.run.hand.seat.token.me.0 driven.worker.program.now driven.worker.firsts.now driven.worker.tally driven.tools driven.stage }
-    ensures { IsDriven result.worker.run.hand.seat.token.me.0 result.worker.program.now result.worker.firsts.now result.worker.tally result.tools result.stage }
+    requires { IsDriven driven.worker.run.hand.seat.token.me.0 driven.worker.program.now
+        driven.worker.firsts.now driven.worker.tally driven.tools driven.stage }
+    ensures { IsDriven result.worker.run.hand.seat.token.me.0 result.worker.program.now
+        result.worker.firsts.now result.worker.tally result.tools result.stage }
 {
     let Driven {
         worker,
@@ -126,8 +136,10 @@ fn finishes_top<'a, 't, H: Home>(
     level: Level,
 ) -> Driven<'a, 't, H>
     requires equipped { IsEquipped worker.program.now worker.firsts.now tools }
-    requires calm { Calm worker.run.hand.seat.token.me.0 worker.program.now worker.tally (level ∷ tools.stack.levels) }
-    ensures { IsDriven result.worker.run.hand.seat.token.me.0 result.worker.program.now result.worker.firsts.now result.worker.tally result.tools result.stage }
+    requires calm { Calm worker.run.hand.seat.token.me.0 worker.program.now worker.tally
+        (level ∷ tools.stack.levels) }
+    ensures { IsDriven result.worker.run.hand.seat.token.me.0 result.worker.program.now
+        result.worker.firsts.now result.worker.tally result.tools result.stage }
 {
     if level.looping {
         return finishes_loop(worker, tools, level);
@@ -147,9 +159,11 @@ fn finishes_loop<'a, 't, H: Home>(
     level: Level,
 ) -> Driven<'a, 't, H>
     requires equipped { IsEquipped worker.program.now worker.firsts.now tools }
-    requires calm { Calm worker.run.hand.seat.token.me.0 worker.program.now worker.tally (level ∷ tools.stack.levels) }
+    requires calm { Calm worker.run.hand.seat.token.me.0 worker.program.now worker.tally
+        (level ∷ tools.stack.levels) }
     requires looping { level.looping ≡ true }
-    ensures { IsDriven result.worker.run.hand.seat.token.me.0 result.worker.program.now result.worker.firsts.now result.worker.tally result.tools result.stage }
+    ensures { IsDriven result.worker.run.hand.seat.token.me.0 result.worker.program.now
+        result.worker.firsts.now result.worker.tally result.tools result.stage }
 {
     if worker.run.left(level.at) == 0 {
         let worker = finish(worker, &mut tools.stack, level);

@@ -30,8 +30,10 @@ fn opens_now<'a, 't, H: Home>(
     own: bool,
 ) -> Driven<'a, 't, H>
     requires equipped { IsEquipped worker.program.now worker.firsts.now tools }
-    requires begun { HasBegun worker.run.hand.seat.token.me.0 worker.program.now worker.tally tools.stack.levels at own }
-    ensures { IsDriven result.worker.run.hand.seat.token.me.0 result.worker.program.now result.worker.firsts.now result.worker.tally result.tools result.stage }
+    requires begun { HasBegun worker.run.hand.seat.token.me.0 worker.program.now worker.tally
+        tools.stack.levels at own }
+    ensures { IsDriven result.worker.run.hand.seat.token.me.0 result.worker.program.now
+        result.worker.firsts.now result.worker.tally result.tools result.stage }
 {
     let call = worker.run.call_of(at);
     if !is_loop(worker.program, &call) {
@@ -46,8 +48,10 @@ fn opens_now<'a, 't, H: Home>(
 
 /// Opens the loop that it has begun, and runs none of its indexes yet.
 pub fn opens<'a, 't, H: Home>(driven: Driven<'a, 't, H>) -> Driven<'a, 't, H>
-    requires { IsDriven driven.worker.run.hand.seat.token.me.0 driven.worker.program.now driven.worker.firsts.now driven.worker.tally driven.tools driven.stage }
-    ensures { IsDriven result.worker.run.hand.seat.token.me.0 result.worker.program.now result.worker.firsts.now result.worker.tally result.tools result.stage }
+    requires { IsDriven driven.worker.run.hand.seat.token.me.0 driven.worker.program.now
+        driven.worker.firsts.now driven.worker.tally driven.tools driven.stage }
+    ensures { IsDriven result.worker.run.hand.seat.token.me.0 result.worker.program.now
+        result.worker.firsts.now result.worker.tally result.tools result.stage }
 {
     let Driven {
         worker,
@@ -67,8 +71,10 @@ fn counts_top<'a, 't, H: Home>(
     at: u32,
 ) -> Driven<'a, 't, H>
     requires equipped { IsEquipped worker.program.now worker.firsts.now tools }
-    requires interval { HasInterval worker.run.hand.seat.token.me.0 worker.program.now worker.tally (level ∷ tools.stack.levels) at }
-    ensures { IsDriven result.worker.run.hand.seat.token.me.0 result.worker.program.now result.worker.firsts.now result.worker.tally result.tools result.stage }
+    requires interval { HasInterval worker.run.hand.seat.token.me.0 worker.program.now worker.tally
+        (level ∷ tools.stack.levels) at }
+    ensures { IsDriven result.worker.run.hand.seat.token.me.0 result.worker.program.now
+        result.worker.firsts.now result.worker.tally result.tools result.stage }
 {
     if level.looping {
         worker.run.left(level.at);
@@ -85,8 +91,10 @@ fn counts_now<'a, 't, H: Home>(
     at: u32,
 ) -> Driven<'a, 't, H>
     requires equipped { IsEquipped worker.program.now worker.firsts.now tools }
-    requires interval { HasInterval worker.run.hand.seat.token.me.0 worker.program.now worker.tally tools.stack.levels at }
-    ensures { IsDriven result.worker.run.hand.seat.token.me.0 result.worker.program.now result.worker.firsts.now result.worker.tally result.tools result.stage }
+    requires interval { HasInterval worker.run.hand.seat.token.me.0 worker.program.now worker.tally
+        tools.stack.levels at }
+    ensures { IsDriven result.worker.run.hand.seat.token.me.0 result.worker.program.now
+        result.worker.firsts.now result.worker.tally result.tools result.stage }
 {
     match tools.stack.pop() {
         None => stands(worker, tools, Stage::Looping(at)),
@@ -96,8 +104,10 @@ fn counts_now<'a, 't, H: Home>(
 
 /// Looks how many indexes are left of the loop of its topmost frame, while its own interval may have some.
 pub fn counts<'a, 't, H: Home>(driven: Driven<'a, 't, H>) -> Driven<'a, 't, H>
-    requires { IsDriven driven.worker.run.hand.seat.token.me.0 driven.worker.program.now driven.worker.firsts.now driven.worker.tally driven.tools driven.stage }
-    ensures { IsDriven result.worker.run.hand.seat.token.me.0 result.worker.program.now result.worker.firsts.now result.worker.tally result.tools result.stage }
+    requires { IsDriven driven.worker.run.hand.seat.token.me.0 driven.worker.program.now
+        driven.worker.firsts.now driven.worker.tally driven.tools driven.stage }
+    ensures { IsDriven result.worker.run.hand.seat.token.me.0 result.worker.program.now
+        result.worker.firsts.now result.worker.tally result.tools result.stage }
 {
     let Driven {
         worker,
@@ -117,9 +127,11 @@ fn takes_now<'a, 't, H: Home>(
     grain: u32,
 ) -> Driven<'a, 't, H>
     requires equipped { IsEquipped worker.program.now worker.firsts.now tools }
-    requires interval { HasInterval worker.run.hand.seat.token.me.0 worker.program.now worker.tally tools.stack.levels at }
+    requires interval { HasInterval worker.run.hand.seat.token.me.0 worker.program.now worker.tally
+        tools.stack.levels at }
     requires some { 1 ≤ grain }
-    ensures { IsDriven result.worker.run.hand.seat.token.me.0 result.worker.program.now result.worker.firsts.now result.worker.tally result.tools result.stage }
+    ensures { IsDriven result.worker.run.hand.seat.token.me.0 result.worker.program.now
+        result.worker.firsts.now result.worker.tally result.tools result.stage }
 {
     match worker.run.chunk(grain) {
         Taken::Got(pair) => stands(worker, tools, Stage::Taken(at, pair)),
@@ -130,9 +142,11 @@ fn takes_now<'a, 't, H: Home>(
 
 /// Takes at most so many positions from the front of its own interval.
 pub fn takes<'a, 't, H: Home>(driven: Driven<'a, 't, H>, grain: u32) -> Driven<'a, 't, H>
-    requires driven { IsDriven driven.worker.run.hand.seat.token.me.0 driven.worker.program.now driven.worker.firsts.now driven.worker.tally driven.tools driven.stage }
+    requires driven { IsDriven driven.worker.run.hand.seat.token.me.0 driven.worker.program.now
+        driven.worker.firsts.now driven.worker.tally driven.tools driven.stage }
     requires some { 1 ≤ grain }
-    ensures { IsDriven result.worker.run.hand.seat.token.me.0 result.worker.program.now result.worker.firsts.now result.worker.tally result.tools result.stage }
+    ensures { IsDriven result.worker.run.hand.seat.token.me.0 result.worker.program.now
+        result.worker.firsts.now result.worker.tally result.tools result.stage }
 {
     let Driven {
         worker,
@@ -152,8 +166,10 @@ fn retires_now<'a, 't, H: Home>(
     pair: Pair,
 ) -> Driven<'a, 't, H>
     requires equipped { IsEquipped worker.program.now worker.firsts.now tools }
-    requires taken { HasChunk worker.run.hand.seat.token.me.0 worker.program.now worker.tally tools.stack.levels at pair }
-    ensures { IsDriven result.worker.run.hand.seat.token.me.0 result.worker.program.now result.worker.firsts.now result.worker.tally result.tools result.stage }
+    requires taken { HasChunk worker.run.hand.seat.token.me.0 worker.program.now worker.tally
+        tools.stack.levels at pair }
+    ensures { IsDriven result.worker.run.hand.seat.token.me.0 result.worker.program.now
+        result.worker.firsts.now result.worker.tally result.tools result.stage }
 {
     let Worker {
         run,
@@ -177,8 +193,10 @@ fn retires_now<'a, 't, H: Home>(
 
 /// Runs the indexes at the positions that it has taken, and retires them.
 pub fn retires<'a, 't, H: Home>(driven: Driven<'a, 't, H>) -> Driven<'a, 't, H>
-    requires { IsDriven driven.worker.run.hand.seat.token.me.0 driven.worker.program.now driven.worker.firsts.now driven.worker.tally driven.tools driven.stage }
-    ensures { IsDriven result.worker.run.hand.seat.token.me.0 result.worker.program.now result.worker.firsts.now result.worker.tally result.tools result.stage }
+    requires { IsDriven driven.worker.run.hand.seat.token.me.0 driven.worker.program.now
+        driven.worker.firsts.now driven.worker.tally driven.tools driven.stage }
+    ensures { IsDriven result.worker.run.hand.seat.token.me.0 result.worker.program.now
+        result.worker.firsts.now result.worker.tally result.tools result.stage }
 {
     let Driven {
         worker,
@@ -196,8 +214,10 @@ fn splits_now<'a, 't, H: Home>(
     tools: Tools,
 ) -> Driven<'a, 't, H>
     requires equipped { IsEquipped worker.program.now worker.firsts.now tools }
-    requires calm { Calm worker.run.hand.seat.token.me.0 worker.program.now worker.tally tools.stack.levels }
-    ensures { IsDriven result.worker.run.hand.seat.token.me.0 result.worker.program.now result.worker.firsts.now result.worker.tally result.tools result.stage }
+    requires calm { Calm worker.run.hand.seat.token.me.0 worker.program.now worker.tally
+        tools.stack.levels }
+    ensures { IsDriven result.worker.run.hand.seat.token.me.0 result.worker.program.now
+        result.worker.firsts.now result.worker.tally result.tools result.stage }
 {
     let cut = split(&mut worker.run.hand, 0);
     keep_cut(&mut worker.run.log, &cut);
@@ -213,8 +233,10 @@ fn splits_now<'a, 't, H: Home>(
 
 /// Splits the interval of worker 0 for itself alone.
 pub fn splits<'a, 't, H: Home>(driven: Driven<'a, 't, H>) -> Driven<'a, 't, H>
-    requires { IsDriven driven.worker.run.hand.seat.token.me.0 driven.worker.program.now driven.worker.firsts.now driven.worker.tally driven.tools driven.stage }
-    ensures { IsDriven result.worker.run.hand.seat.token.me.0 result.worker.program.now result.worker.firsts.now result.worker.tally result.tools result.stage }
+    requires { IsDriven driven.worker.run.hand.seat.token.me.0 driven.worker.program.now
+        driven.worker.firsts.now driven.worker.tally driven.tools driven.stage }
+    ensures { IsDriven result.worker.run.hand.seat.token.me.0 result.worker.program.now
+        result.worker.firsts.now result.worker.tally result.tools result.stage }
 {
     let Driven {
         worker,
@@ -235,8 +257,10 @@ fn holds_now<'a, 't, H: Home>(
     pair: Pair,
 ) -> Driven<'a, 't, H>
     requires equipped { IsEquipped worker.program.now worker.firsts.now tools }
-    requires piece { HasPiece worker.run.hand.seat.token.me.0 worker.program.now worker.tally tools.stack.levels at pair }
-    ensures { IsDriven result.worker.run.hand.seat.token.me.0 result.worker.program.now result.worker.firsts.now result.worker.tally result.tools result.stage }
+    requires piece { HasPiece worker.run.hand.seat.token.me.0 worker.program.now worker.tally
+        tools.stack.levels at pair }
+    ensures { IsDriven result.worker.run.hand.seat.token.me.0 result.worker.program.now
+        result.worker.firsts.now result.worker.tally result.tools result.stage }
 {
     worker.run.take_piece(at, pair);
     stands(worker, tools, Stage::Looping(at))
@@ -244,8 +268,10 @@ fn holds_now<'a, 't, H: Home>(
 
 /// Makes the piece that it was given its own interval.
 pub fn holds<'a, 't, H: Home>(driven: Driven<'a, 't, H>) -> Driven<'a, 't, H>
-    requires { IsDriven driven.worker.run.hand.seat.token.me.0 driven.worker.program.now driven.worker.firsts.now driven.worker.tally driven.tools driven.stage }
-    ensures { IsDriven result.worker.run.hand.seat.token.me.0 result.worker.program.now result.worker.firsts.now result.worker.tally result.tools result.stage }
+    requires { IsDriven driven.worker.run.hand.seat.token.me.0 driven.worker.program.now
+        driven.worker.firsts.now driven.worker.tally driven.tools driven.stage }
+    ensures { IsDriven result.worker.run.hand.seat.token.me.0 result.worker.program.now
+        result.worker.firsts.now result.worker.tally result.tools result.stage }
 {
     let Driven {
         worker,

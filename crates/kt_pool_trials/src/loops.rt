@@ -25,7 +25,8 @@ fn hired_pair<'a, 't, H: Home, W: Wait>(
     mut room: Vec<Tools>,
 ) -> (Log, Log)
     requires home { H.table ≡ Some common.table.now.table.shared.table_id }
-    requires seats { All (IsUnmoved common.table.now common.program.now) seats.items × (length seats.items ≡ 2) }
+    requires seats { All (IsUnmoved common.table.now common.program.now) seats.items
+        × (length seats.items ≡ 2) }
     requires room { All (IsRoomy common.program.now) room.items × (length room.items ≡ 2) }
     requires accepted { IsAccepted common.program.now }
     requires firsts { HasFirsts common.program.now.families common.firsts.now }
@@ -43,7 +44,8 @@ fn hired_pair<'a, 't, H: Home, W: Wait>(
 
 /// The same at a table whose seats have made no step.
 pub fn play_pair<W: Wait>(rt: &W, common: Common, seats: Vec<Seat>, room: Vec<Tools>) -> (Log, Log)
-    requires seats { (j : Setup) × AreSeatsOf j common.table.now seats.items × HaveNotStepped j seats.items × (j.workers ≡ 2) × (j.program ≡ common.program.now) }
+    requires seats { (j : Setup) × AreSeatsOf j common.table.now seats.items
+        × HaveNotStepped j seats.items × (j.workers ≡ 2) × (j.program ≡ common.program.now) }
     requires room { All (IsRoomy common.program.now) room.items × (length room.items ≡ 2) }
     requires accepted { IsAccepted common.program.now }
     requires firsts { HasFirsts common.program.now.families common.firsts.now }
@@ -59,7 +61,8 @@ fn hired_four<'a, 't, H: Home, W: Wait>(
     mut room: Vec<Tools>,
 ) -> (Log, Log, Log, Log)
     requires home { H.table ≡ Some common.table.now.table.shared.table_id }
-    requires seats { All (IsUnmoved common.table.now common.program.now) seats.items × (length seats.items ≡ 4) }
+    requires seats { All (IsUnmoved common.table.now common.program.now) seats.items
+        × (length seats.items ≡ 4) }
     requires room { All (IsRoomy common.program.now) room.items × (length room.items ≡ 4) }
     requires accepted { IsAccepted common.program.now }
     requires firsts { HasFirsts common.program.now.families common.firsts.now }
@@ -84,7 +87,8 @@ pub fn play_four<W: Wait>(
     seats: Vec<Seat>,
     room: Vec<Tools>,
 ) -> (Log, Log, Log, Log)
-    requires seats { (j : Setup) × AreSeatsOf j common.table.now seats.items × HaveNotStepped j seats.items × (j.workers ≡ 4) × (j.program ≡ common.program.now) }
+    requires seats { (j : Setup) × AreSeatsOf j common.table.now seats.items
+        × HaveNotStepped j seats.items × (j.workers ≡ 4) × (j.program ≡ common.program.now) }
     requires room { All (IsRoomy common.program.now) room.items × (length room.items ≡ 4) }
     requires accepted { IsAccepted common.program.now }
     requires firsts { HasFirsts common.program.now.families common.firsts.now }

@@ -106,9 +106,12 @@ pub struct Recorder<'t, H: Home> {
 /// Notes the accesses of the record that was looked at last.
 pub fn note_accesses<'t, H: Home>(hand: &mut Hand<'t, H>, at: u32)
     requires inside { IsRecord hand.old.seat.token.me.0 at }
-    requires looked { (word : ℕ) × (ns : List Note) × IsLookedAt hand.old.seat.token.me.0 at word ns }
+    requires looked { (word : ℕ) × (ns : List Note)
+        × IsLookedAt hand.old.seat.token.me.0 at word ns }
     ensures found { (word : ℕ) (ns : List Note) → IsLookedAt hand.old.seat.token.me.0 at word ns
-        → (xs : List Access) × (hand.new.seat.token.me.0 ≡ with_note hand.old.seat.token.me.0 (found_of at word xs) ns) }
+        → (xs : List Access)
+        × (hand.new.seat.token.me.0
+        ≡ with_note hand.old.seat.token.me.0 (found_of at word xs) ns) }
 {
     kt_tasks::accesses_of(hand.table, &mut hand.seat, at);
 }
@@ -119,7 +122,8 @@ pub fn offer<'t, H: Home>(hand: &mut Hand<'t, H>, at: u32, state: StateWord, thi
     requires inside { IsRecord hand.old.seat.token.me.0 at }
     requires thief { IsWorker hand.old.seat.token.me.0 thief }
     requires noted { IsNotedReady hand.old.seat.token.me.0 at state }
-    ensures claimed { ClaimedFor hand.old.seat.token.me.0 at state thief hand.new.seat.token.me.0 result }
+    ensures claimed { ClaimedFor hand.old.seat.token.me.0 at state thief hand.new.seat.token.me.0
+        result }
 {
     kt_tasks::claim_for(hand.table, &mut hand.seat, at, state, thief)
 }
@@ -137,9 +141,12 @@ pub fn split<'t, H: Home>(hand: &mut Hand<'t, H>, victim: u32) -> Divided
 fn serve_all<'t, H: Home>(hand: &mut Hand<'t, H>, victim: u32, scan: &mut Scan) -> Served
     requires crew { IsOfCrew hand.old.seat.token.me.0 }
     requires victim { IsWorker hand.old.seat.token.me.0 victim }
-    requires leads { (hand.old.seat.token.me.0.desk.leads ≡ true) × (hand.old.seat.token.me.0.desk.victim ≡ victim) }
-    requires none { (hand.old.seat.token.me.0.desk.held ≡ []) × (hand.old.seat.token.me.0.tasks.promised ≡ []) }
-    requires objects { (j : Setup) → hand.old.seat.token.me.0.setup ≡ Some j → objects_of j.program.families ≤ scan.old.objects }
+    requires leads { (hand.old.seat.token.me.0.desk.leads ≡ true)
+        × (hand.old.seat.token.me.0.desk.victim ≡ victim) }
+    requires none { (hand.old.seat.token.me.0.desk.held ≡ [])
+        × (hand.old.seat.token.me.0.tasks.promised ≡ []) }
+    requires objects { (j : Setup) → hand.old.seat.token.me.0.setup ≡ Some j
+        → objects_of j.program.families ≤ scan.old.objects }
     requires entries { RECORDS ≤ scan.old.entries }
     ensures served { Serves hand.old.seat.token.me.0 hand.new.seat.token.me.0 }
     ensures room { HasRoomOf scan.old scan.new }

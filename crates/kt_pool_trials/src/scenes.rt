@@ -45,11 +45,15 @@ pub fn hires<'a, 't, H: Home>(
     requires home { H.table ≡ Some common.table.now.table.shared.table_id }
     requires accepted { IsAccepted common.program.now }
     requires firsts { HasFirsts common.program.now.families common.firsts.now }
-    requires seats { All (IsUnmoved common.table.now common.program.now) seats.old.items × (0 < length seats.old.items) }
+    requires seats { All (IsUnmoved common.table.now common.program.now) seats.old.items
+        × (0 < length seats.old.items) }
     requires room { All (IsRoomy common.program.now) room.old.items × (0 < length room.old.items) }
-    ensures driven { IsDriven result.worker.run.hand.seat.token.me.0 result.worker.program.now result.worker.firsts.now result.worker.tally result.tools result.stage }
-    ensures seats { All (IsUnmoved common.entry.table.now common.entry.program.now) seats.new.items × (length seats.new.items + 1 ≡ length seats.old.items) }
-    ensures room { All (IsRoomy common.entry.program.now) room.new.items × (length room.new.items + 1 ≡ length room.old.items) }
+    ensures driven { IsDriven result.worker.run.hand.seat.token.me.0 result.worker.program.now
+        result.worker.firsts.now result.worker.tally result.tools result.stage }
+    ensures seats { All (IsUnmoved common.entry.table.now common.entry.program.now) seats.new.items
+        × (length seats.new.items + 1 ≡ length seats.old.items) }
+    ensures room { All (IsRoomy common.entry.program.now) room.new.items
+        × (length room.new.items + 1 ≡ length room.old.items) }
 {
     let seat = seats.remove(0);
     let tools = room.remove(0);
@@ -72,7 +76,8 @@ fn hired_one<'a, 't, H: Home, W: Wait>(
     mut room: Vec<Tools>,
 ) -> Logs
     requires home { H.table ≡ Some common.table.now.table.shared.table_id }
-    requires seats { All (IsUnmoved common.table.now common.program.now) seats.items × (length seats.items ≡ 3) }
+    requires seats { All (IsUnmoved common.table.now common.program.now) seats.items
+        × (length seats.items ≡ 3) }
     requires room { All (IsRoomy common.program.now) room.items × (length room.items ≡ 3) }
     requires accepted { IsAccepted common.program.now }
     requires firsts { HasFirsts common.program.now.families common.firsts.now }
@@ -102,7 +107,8 @@ fn hired_one<'a, 't, H: Home, W: Wait>(
 
 /// The same at a table whose seats have made no step.
 pub fn play_one<W: Wait>(rt: &W, common: Common, seats: Vec<Seat>, room: Vec<Tools>) -> Logs
-    requires seats { (j : Setup) × AreSeatsOf j common.table.now seats.items × HaveNotStepped j seats.items × (j.workers ≡ 3) × (j.program ≡ common.program.now) }
+    requires seats { (j : Setup) × AreSeatsOf j common.table.now seats.items
+        × HaveNotStepped j seats.items × (j.workers ≡ 3) × (j.program ≡ common.program.now) }
     requires room { All (IsRoomy common.program.now) room.items × (length room.items ≡ 3) }
     requires accepted { IsAccepted common.program.now }
     requires firsts { HasFirsts common.program.now.families common.firsts.now }
@@ -118,7 +124,8 @@ fn hired_two<'a, 't, H: Home, W: Wait>(
     mut room: Vec<Tools>,
 ) -> Logs
     requires home { H.table ≡ Some common.table.now.table.shared.table_id }
-    requires seats { All (IsUnmoved common.table.now common.program.now) seats.items × (length seats.items ≡ 3) }
+    requires seats { All (IsUnmoved common.table.now common.program.now) seats.items
+        × (length seats.items ≡ 3) }
     requires room { All (IsRoomy common.program.now) room.items × (length room.items ≡ 3) }
     requires accepted { IsAccepted common.program.now }
     requires firsts { HasFirsts common.program.now.families common.firsts.now }
@@ -143,7 +150,8 @@ fn hired_two<'a, 't, H: Home, W: Wait>(
 
 /// The same at a table whose seats have made no step.
 pub fn play_two<W: Wait>(rt: &W, common: Common, seats: Vec<Seat>, room: Vec<Tools>) -> Logs
-    requires seats { (j : Setup) × AreSeatsOf j common.table.now seats.items × HaveNotStepped j seats.items × (j.workers ≡ 3) × (j.program ≡ common.program.now) }
+    requires seats { (j : Setup) × AreSeatsOf j common.table.now seats.items
+        × HaveNotStepped j seats.items × (j.workers ≡ 3) × (j.program ≡ common.program.now) }
     requires room { All (IsRoomy common.program.now) room.items × (length room.items ≡ 3) }
     requires accepted { IsAccepted common.program.now }
     requires firsts { HasFirsts common.program.now.families common.firsts.now }

@@ -21,9 +21,11 @@ fn watches_now<'a, 't, H: Home>(
     at: u32,
 ) -> Driven<'a, 't, H>
     requires equipped { IsEquipped worker.program.now worker.firsts.now tools }
-    requires calm { Calm worker.run.hand.seat.token.me.0 worker.program.now worker.tally tools.stack.levels }
+    requires calm { Calm worker.run.hand.seat.token.me.0 worker.program.now worker.tally
+        tools.stack.levels }
     requires near { at < RECORDS }
-    ensures { IsDriven result.worker.run.hand.seat.token.me.0 result.worker.program.now result.worker.firsts.now result.worker.tally result.tools result.stage }
+    ensures { IsDriven result.worker.run.hand.seat.token.me.0 result.worker.program.now
+        result.worker.firsts.now result.worker.tally result.tools result.stage }
 {
     worker.run.stand(at);
     stands(worker, tools, Stage::Resting)
@@ -31,9 +33,11 @@ fn watches_now<'a, 't, H: Home>(
 
 /// Looks at a record of worker 0.
 pub fn watches<'a, 't, H: Home>(driven: Driven<'a, 't, H>, at: u32) -> Driven<'a, 't, H>
-    requires driven { IsDriven driven.worker.run.hand.seat.token.me.0 driven.worker.program.now driven.worker.firsts.now driven.worker.tally driven.tools driven.stage }
+    requires driven { IsDriven driven.worker.run.hand.seat.token.me.0 driven.worker.program.now
+        driven.worker.firsts.now driven.worker.tally driven.tools driven.stage }
     requires near { at < RECORDS }
-    ensures { IsDriven result.worker.run.hand.seat.token.me.0 result.worker.program.now result.worker.firsts.now result.worker.tally result.tools result.stage }
+    ensures { IsDriven result.worker.run.hand.seat.token.me.0 result.worker.program.now
+        result.worker.firsts.now result.worker.tally result.tools result.stage }
 {
     let Driven {
         worker,
@@ -65,9 +69,11 @@ fn notes_now<'a, 't, H: Home>(
     at: u32,
 ) -> Driven<'a, 't, H>
     requires equipped { IsEquipped worker.program.now worker.firsts.now tools }
-    requires calm { Calm worker.run.hand.seat.token.me.0 worker.program.now worker.tally tools.stack.levels }
+    requires calm { Calm worker.run.hand.seat.token.me.0 worker.program.now worker.tally
+        tools.stack.levels }
     requires near { at < RECORDS }
-    ensures { IsDriven result.worker.run.hand.seat.token.me.0 result.worker.program.now result.worker.firsts.now result.worker.tally result.tools result.stage }
+    ensures { IsDriven result.worker.run.hand.seat.token.me.0 result.worker.program.now
+        result.worker.firsts.now result.worker.tally result.tools result.stage }
 {
     let state = worker.run.stand(at);
     if !is_first_unclaimed(state) {
@@ -79,9 +85,11 @@ fn notes_now<'a, 't, H: Home>(
 
 /// Notes the first entry of a frame of worker 0.
 pub fn notes<'a, 't, H: Home>(driven: Driven<'a, 't, H>, at: u32) -> Driven<'a, 't, H>
-    requires driven { IsDriven driven.worker.run.hand.seat.token.me.0 driven.worker.program.now driven.worker.firsts.now driven.worker.tally driven.tools driven.stage }
+    requires driven { IsDriven driven.worker.run.hand.seat.token.me.0 driven.worker.program.now
+        driven.worker.firsts.now driven.worker.tally driven.tools driven.stage }
     requires near { at < RECORDS }
-    ensures { IsDriven result.worker.run.hand.seat.token.me.0 result.worker.program.now result.worker.firsts.now result.worker.tally result.tools result.stage }
+    ensures { IsDriven result.worker.run.hand.seat.token.me.0 result.worker.program.now
+        result.worker.firsts.now result.worker.tally result.tools result.stage }
 {
     let Driven {
         worker,
@@ -97,8 +105,10 @@ pub fn notes<'a, 't, H: Home>(driven: Driven<'a, 't, H>, at: u32) -> Driven<'a, 
 
 /// Claims for itself the entry that it has noted.
 pub fn offers<'a, 't, H: Home>(driven: Driven<'a, 't, H>) -> Driven<'a, 't, H>
-    requires driven { IsDriven driven.worker.run.hand.seat.token.me.0 driven.worker.program.now driven.worker.firsts.now driven.worker.tally driven.tools driven.stage }
-    ensures { IsDriven result.worker.run.hand.seat.token.me.0 result.worker.program.now result.worker.firsts.now result.worker.tally result.tools result.stage }
+    requires driven { IsDriven driven.worker.run.hand.seat.token.me.0 driven.worker.program.now
+        driven.worker.firsts.now driven.worker.tally driven.tools driven.stage }
+    ensures { IsDriven result.worker.run.hand.seat.token.me.0 result.worker.program.now
+        result.worker.firsts.now result.worker.tally result.tools result.stage }
 {
     let Driven {
         mut worker,

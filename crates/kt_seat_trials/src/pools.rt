@@ -15,7 +15,8 @@ const ONE_TASK: &str =
 
 // Closes a pool of whose seats none has made a step: the lists of its record are empty.
 fn closed_at_once(pool: Pool, seats: Vec<Seat>) -> (Closed, Record)
-    requires seats { (j : Setup) × AreSeatsOf j (run_table pool) seats.items × HaveNotStepped j seats.items }
+    requires seats { (j : Setup) × AreSeatsOf j (run_table pool) seats.items
+        × HaveNotStepped j seats.items }
     ensures claimed { (joined_view result.1).tasks.claimed ≡ [] }
     ensures ran { (joined_view result.1).tasks.ran ≡ [] }
 {

@@ -47,7 +47,8 @@ fn looked_at(t: &RunTable, s: &mut Seat, at: u32) -> StateWord
 
 // Two claims of main by worker 0, and looks of the other two.
 fn tried(t: &RunTable, mut seats: Vec<Seat>) -> (Vec<Seat>, Found)
-    requires { (j : Setup) × AreSeatsOf j t.now seats.items × HaveNotStepped j seats.items × (j.workers ≡ 3) }
+    requires { (j : Setup) × AreSeatsOf j t.now seats.items × HaveNotStepped j seats.items
+        × (j.workers ≡ 3) }
     ensures { (j : Setup) → AreSeatsOf j t.now seats.items → AreSeatsOf j t.now result.0.items }
 {
     let mut zero = seats.remove(0);
@@ -72,7 +73,8 @@ fn tried(t: &RunTable, mut seats: Vec<Seat>) -> (Vec<Seat>, Found)
 
 // The same at the table of a pool, which is closed then.
 fn tried_and_closed(pool: Pool, seats: Vec<Seat>) -> (Closed, Found)
-    requires { (j : Setup) × AreSeatsOf j (run_table pool) seats.items × HaveNotStepped j seats.items × (j.workers ≡ 3) }
+    requires { (j : Setup) × AreSeatsOf j (run_table pool) seats.items
+        × HaveNotStepped j seats.items × (j.workers ≡ 3) }
 {
     let (seats, found) = tried(pool.table(), seats);
     let (closed, _record) = pool.close(seats);

@@ -30,7 +30,8 @@ pub fn open_families(
 ) -> Result<(), NoMemory>
     requires inputs { length input.now ≡ inputs_of families.now }
     requires elements { elements_of families.now < 2 ^ 32 }
-    ensures { OnOk result (elements.new.items ≡ elements.old.items ++ opened_with families.now input.now) }
+    ensures { OnOk result
+        (elements.new.items ≡ elements.old.items ++ opened_with families.now input.now) }
 {
     match families {
         [] => Ok(()),

@@ -64,7 +64,9 @@ impl<'a> PlainStore<'a> {
     pub fn load(&self, object: u32, element: u32) -> u64
         requires object { object < objects_of self.now.program.families }
         requires element { element < width_of self.now.program.families object }
-        ensures { result ≡ answer self.now.program.families (record { object = object; element = element; deed = Load }) self.now.elements }
+        ensures { result
+            ≡ answer self.now.program.families
+            (record { object = object; element = element; deed = Load }) self.now.elements }
     {
         self.elements[self.place(object, element)]
     }
@@ -73,7 +75,9 @@ impl<'a> PlainStore<'a> {
     pub fn store(&mut self, object: u32, element: u32, value: u64)
         requires object { object < objects_of self.old.program.families }
         requires element { element < width_of self.old.program.families object }
-        ensures { self.new ≡ after_act (record { object = object; element = element; deed = Store value }) self.old }
+        ensures { self.new
+            ≡ after_act (record { object = object; element = element; deed = Store value })
+            self.old }
     {
         let at = self.place(object, element);
         self.elements[at] = value;
@@ -83,7 +87,9 @@ impl<'a> PlainStore<'a> {
     pub fn fold(&mut self, object: u32, element: u32, op: Op, value: u64)
         requires object { object < objects_of self.old.program.families }
         requires element { element < width_of self.old.program.families object }
-        ensures { self.new ≡ after_act (record { object = object; element = element; deed = Fold op value }) self.old }
+        ensures { self.new
+            ≡ after_act (record { object = object; element = element; deed = Fold op value })
+            self.old }
     {
         let at = self.place(object, element);
         self.elements[at] = fold(op, self.elements[at], value);

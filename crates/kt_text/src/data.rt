@@ -29,7 +29,8 @@ pub fn read_data(alloc: Global, job: &[u8], from: usize, wanted: u32) -> Result<
     requires short { length job.now < u32.MAX }
     ensures read { IfOk result (λ read. numbers job.now from wanted ≡ Ok read.items) }
     ensures count { IfOk result (λ read. length read.items ≡ wanted) }
-    ensures refused { IfErr result (λ error. error ≢ DataError.NoMemory → numbers job.now from wanted ≡ Err error) }
+    ensures refused { IfErr result
+        (λ error. error ≢ DataError.NoMemory → numbers job.now from wanted ≡ Err error) }
 {
     let mut read = Vec::new(alloc);
     let mut at = item_start(job, from);

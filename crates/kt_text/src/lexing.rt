@@ -27,7 +27,8 @@ impl<'a> Model for Lexer<'a> {
 
     ghost view = { λ l. record { text = l.text.now; at = l.at } };
 
-    ghost invariant = { λ l. (l.at ≤ length l.text.now) × (length l.text.now + 1 < 2 ^ 32) × (l.place ≡ place_of l.text.now l.at) };
+    ghost invariant = { λ l. (l.at ≤ length l.text.now) × (length l.text.now + 1 < 2 ^ 32)
+        × (l.place ≡ place_of l.text.now l.at) };
 }
 
 impl<'a> Lexer<'a> {

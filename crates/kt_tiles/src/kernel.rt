@@ -76,8 +76,10 @@ fn run_numbered<O: Ops>(
     ops: &mut O,
     buffers: &mut Buffers,
 ) -> Result<(), Early>
-    requires { Can O.at O.goes O.halted program.now ops.old (kernel_body (width_of program.now.families) kernel ints.now accesses.now) }
-    ensures { Ran O.at O.goes O.halted ops.old (kernel_body (width_of program.now.families) kernel ints.now accesses.now) ops.new result }
+    requires { Can O.at O.goes O.halted program.now ops.old
+        (kernel_body (width_of program.now.families) kernel ints.now accesses.now) }
+    ensures { Ran O.at O.goes O.halted ops.old
+        (kernel_body (width_of program.now.families) kernel ints.now accesses.now) ops.new result }
 {
     let (a, rest) = buffers.numbers.split_at_mut(TILE);
     let (b, c) = rest.split_at_mut(TILE);
@@ -100,9 +102,11 @@ fn run_zeroed<O: Ops>(
     ops: &mut O,
     buffers: &mut Buffers,
 ) -> Result<(), Early>
-    requires can { Can O.at O.goes O.halted program.now ops.old (job_body (λ w. w) program.now (Whole call.now)) }
+    requires can { Can O.at O.goes O.halted program.now ops.old
+        (job_body (λ w. w) program.now (Whole call.now)) }
     requires kernel { IsKernel call.now }
-    ensures { Ran O.at O.goes O.halted ops.old (job_body (λ w. w) program.now (Whole call.now)) ops.new result }
+    ensures { Ran O.at O.goes O.halted ops.old (job_body (λ w. w) program.now (Whole call.now))
+        ops.new result }
 {
     let kernel = call.task - DEFINITIONS - 1;
     let (ints, accesses) = (call.ints.as_slice(), call.accesses.as_slice());

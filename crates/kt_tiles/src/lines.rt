@@ -104,11 +104,15 @@ fn run_fitting_line<O: Ops>(
     out: &mut [u64],
     ops: &mut O,
 ) -> Result<(), Early>
-    requires can { Can O.at O.goes O.halted program.now ops.old (smooth (width_of program.now.families) s.now.n s.now.left s.now.row s.now.right s.now.out) }
+    requires can { Can O.at O.goes O.halted program.now ops.old
+        (smooth (width_of program.now.families) s.now.n s.now.left s.now.row s.now.right
+        s.now.out) }
     requires few { s.now.n ≤ WIDTH }
     requires row_room { WIDTH ≤ length row.old }
     requires out_room { WIDTH ≤ length out.old }
-    ensures { Ran O.at O.goes O.halted ops.old (smooth (width_of program.now.families) s.now.n s.now.left s.now.row s.now.right s.now.out) ops.new result }
+    ensures { Ran O.at O.goes O.halted ops.old
+        (smooth (width_of program.now.families) s.now.n s.now.left s.now.row s.now.right s.now.out)
+        ops.new result }
 {
     if s.n == 0 {
         Ok(())
@@ -127,8 +131,10 @@ pub fn run_stencil<O: Ops>(
 ) -> Result<(), Early>
     requires row_room { WIDTH ≤ length row.old }
     requires out_room { WIDTH ≤ length out.old }
-    requires can { Can O.at O.goes O.halted program.now ops.old (line_in (width_of program.now.families) s.now) }
-    ensures { Ran O.at O.goes O.halted ops.old (line_in (width_of program.now.families) s.now) ops.new result }
+    requires can { Can O.at O.goes O.halted program.now ops.old
+        (line_in (width_of program.now.families) s.now) }
+    ensures { Ran O.at O.goes O.halted ops.old (line_in (width_of program.now.families) s.now)
+        ops.new result }
 {
     if is_line_fitting(program, s) {
         run_fitting_line(program, s, row, out, ops)
@@ -172,8 +178,10 @@ pub fn run_scan<O: Ops>(
     ops: &mut O,
 ) -> Result<(), Early>
     requires room { WIDTH ≤ length row.old }
-    requires can { Can O.at O.goes O.halted program.now ops.old (sum_in (width_of program.now.families) s.now) }
-    ensures { Ran O.at O.goes O.halted ops.old (sum_in (width_of program.now.families) s.now) ops.new result }
+    requires can { Can O.at O.goes O.halted program.now ops.old
+        (sum_in (width_of program.now.families) s.now) }
+    ensures { Ran O.at O.goes O.halted ops.old (sum_in (width_of program.now.families) s.now)
+        ops.new result }
 {
     if is_sum_fitting(program, s) {
         run_sum_in(program, s, row, ops)

@@ -144,11 +144,13 @@ pub fn run_product<O: Ops>(
     c: &mut [u64],
     ops: &mut O,
 ) -> Result<(), Early>
-    requires can { Can O.at O.goes O.halted program.now ops.old (product_in (width_of program.now.families) ring s.now) }
+    requires can { Can O.at O.goes O.halted program.now ops.old
+        (product_in (width_of program.now.families) ring s.now) }
     requires a_room { WIDTH ≤ length a.old }
     requires b_room { WIDTH ≤ length b.old }
     requires c_room { WIDTH ≤ length c.old }
-    ensures { Ran O.at O.goes O.halted ops.old (product_in (width_of program.now.families) ring s.now) ops.new result }
+    ensures { Ran O.at O.goes O.halted ops.old
+        (product_in (width_of program.now.families) ring s.now) ops.new result }
 {
     if is_fitting(program, s) {
         run_tiled(program, ring, s, a, b, c, ops)

@@ -15,9 +15,11 @@ pub fn load_row<O: Ops>(
     into: &mut [u64],
     ops: &mut O,
 ) -> Result<(), Early>
-    requires can { Can O.at O.goes O.halted program.now ops.old (load_all object 0 (length into.old)) }
+    requires can { Can O.at O.goes O.halted program.now ops.old
+        (load_all object 0 (length into.old)) }
     requires few { length into.old ≤ WIDTH }
-    ensures ran { RanTo O.at O.goes O.halted ops.old (load_all object 0 (length into.old)) ops.new into.new result }
+    ensures ran { RanTo O.at O.goes O.halted ops.old (load_all object 0 (length into.old))
+        ops.new into.new result }
     ensures shape { length into.new ≡ length into.old }
 {
     for i in 0..into.len() {
@@ -37,9 +39,11 @@ pub fn write_row<O: Ops>(
     values: &[u64],
     ops: &mut O,
 ) -> Result<(), Early>
-    requires can { Can O.at O.goes O.halted program.now ops.old (perform_all (deed_of write) object 0 values.now) }
+    requires can { Can O.at O.goes O.halted program.now ops.old
+        (perform_all (deed_of write) object 0 values.now) }
     requires few { length values.now ≤ WIDTH }
-    ensures { Ran O.at O.goes O.halted ops.old (perform_all (deed_of write) object 0 values.now) ops.new result }
+    ensures { Ran O.at O.goes O.halted ops.old (perform_all (deed_of write) object 0 values.now)
+        ops.new result }
 {
     for i in 0..values.len() {
         let value = values[i];

@@ -131,8 +131,11 @@ impl<'a> Source<'a> {
     /// Goes on to the token behind the next one, unless that nests too deep.
     pub fn advance(&mut self) -> Result<(), Unread>
         requires { (next_of self.now).symbol ≡ S.End → ⊥ }
-        ensures { MatchResult result (λ _. (self.new ≡ rest_of self.old) × (is_over self.old.gauge (next_of self.old).symbol ≡ false))
-            (λ why. (why ≡ TooDeep) × (self.new ≡ self.old) × (is_over self.old.gauge (next_of self.old).symbol ≡ true)) }
+        ensures { MatchResult result
+            (λ _. (self.new ≡ rest_of self.old)
+            × (is_over self.old.gauge (next_of self.old).symbol ≡ false))
+            (λ why. (why ≡ TooDeep) × (self.new ≡ self.old)
+            × (is_over self.old.gauge (next_of self.old).symbol ≡ true)) }
     {
         if self.gauge.is_over(&self.next.tok.symbol) {
             return Err(Unread::TooDeep);

@@ -11,7 +11,8 @@ use kt_text::{Token, TokenKind};
 pub fn tok<'a>(job: &'a [u8], token: &Token) -> Tok<'a>
     requires ordered { token.now.start ≤ token.now.stop }
     requires within { token.now.stop ≤ length job.now }
-    requires name { token.now.kind ≡ K.Word → IsName (slice_range job.now token.now.start token.now.stop) }
+    requires name { token.now.kind ≡ K.Word
+        → IsName (slice_range job.now token.now.start token.now.stop) }
     ensures { result ≡ tok_of job.now token.now }
 {
     let text = &job[token.start..token.stop];

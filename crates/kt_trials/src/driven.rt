@@ -29,7 +29,8 @@ impl<'a> Doing<'a> {
         requires can { CanGo self.old.core self.old.task operation }
         requires called { IsCalled operation }
         requires live { self.old.over ≡ true → ⊥ }
-        ensures { Followed (λ d. StandsAt d.core d.task) (λ d done e. Unit {0}) (λ d. d.over ≡ true) self.old operation self.new result }
+        ensures { Followed (λ d. StandsAt d.core d.task) (λ d done e. Unit {0}) (λ d. d.over ≡ true)
+            self.old operation self.new result }
     {
         match self.core.step(&Event::Body(self.task, operation)) {
             Ok(()) => Went::Went,
@@ -157,7 +158,8 @@ fn is_bare_loop(core: &Core, task: u32) -> bool
 #[tactic(auto, using(crate::proofs::Driving::can_ask_idle))]
 fn is_idle(core: &Core, task: u32, index: u32) -> bool
     requires { task < length core.now.table.tasks }
-    ensures { result ≡ true → (operation : Operation) → CanAsk core.now.program (event_is.Index task index operation) core.now.table }
+    ensures { result ≡ true → (operation : Operation)
+        → CanAsk core.now.program (event_is.Index task index operation) core.now.table }
 {
     !core.is_under_way(task, index)
 }

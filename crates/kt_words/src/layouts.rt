@@ -145,13 +145,17 @@ impl Layout {
     }
 
     fn first_element(&self) -> usize
-        ensures { result ≡ SHARED_WORDS + WORKER_WORDS * self.now.workers + FIELDS * (RECORDS * self.now.workers) }
+        ensures { result
+            ≡ SHARED_WORDS + WORKER_WORDS * self.now.workers
+            + FIELDS * (RECORDS * self.now.workers) }
     {
         self.first_record() + FIELDS as usize * (RECORDS as usize * self.workers as usize)
     }
 
     fn first_version(&self) -> usize
-        ensures { result ≡ SHARED_WORDS + WORKER_WORDS * self.now.workers + FIELDS * (RECORDS * self.now.workers) + self.now.elements }
+        ensures { result
+            ≡ SHARED_WORDS + WORKER_WORDS * self.now.workers + FIELDS * (RECORDS * self.now.workers)
+            + self.now.elements }
     {
         self.first_element() + self.elements as usize
     }

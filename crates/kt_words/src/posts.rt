@@ -63,7 +63,8 @@ fn numbers(post: Post) -> (u64, u64)
 /// The post of this kind with this number.
 fn post_with(kind: u64, number: u32) -> Option<Post>
     ensures found { IfSome result (λ post. (post_kind post ≡ kind) × (post_number post ≡ number)) }
-    ensures none { IfNone result ((post : Post) → post_kind post ≡ kind → post_number post ≢ number) }
+    ensures none { IfNone result
+        ((post : Post) → post_kind post ≡ kind → post_number post ≢ number) }
 {
     match kind {
         0 if number == 0 => Some(Post::Idle),

@@ -30,7 +30,8 @@ fn serve_if_free<R: Run>(run: &mut R, scan: &mut Scan, victim: u32)
     requires free { (R.view run.old).desk.free ≡ false }
     requires leads { (R.view run.old).desk.leads ≡ false }
     requires none { (R.view run.old).tasks.promised ≡ [] }
-    requires objects { (j : Setup) → (R.view run.old).setup ≡ Some j → objects_of j.program.families ≤ scan.old.objects }
+    requires objects { (j : Setup) → (R.view run.old).setup ≡ Some j
+        → objects_of j.program.families ≤ scan.old.objects }
     requires entries { RECORDS ≤ scan.old.entries }
     ensures served { Asks (R.view run.old) (R.view run.new) }
     ensures room { HasRoomOf scan.old scan.new }
@@ -49,7 +50,8 @@ fn try_once<R: Run>(run: &mut R, scan: &mut Scan, victim: u32) -> Answer
     requires leads { (R.view run.old).desk.leads ≡ false }
     requires none { (R.view run.old).tasks.promised ≡ [] }
     requires given { (R.view run.old).tasks.given ≡ [] }
-    requires objects { (j : Setup) → (R.view run.old).setup ≡ Some j → objects_of j.program.families ≤ scan.old.objects }
+    requires objects { (j : Setup) → (R.view run.old).setup ≡ Some j
+        → objects_of j.program.families ≤ scan.old.objects }
     requires entries { RECORDS ≤ scan.old.entries }
     ensures tried { Tried (R.view run.old) (R.view run.new) result }
     ensures room { HasRoomOf scan.old scan.new }
@@ -70,7 +72,8 @@ pub fn ask<R: Run, W: Wait>(
     requires crew { IsOfCrew (R.view run.old) }
     requires victim { IsWorker (R.view run.old) victim }
     requires idle { IsIdle (R.view run.old) }
-    requires objects { (j : Setup) → (R.view run.old).setup ≡ Some j → objects_of j.program.families ≤ scan.old.objects }
+    requires objects { (j : Setup) → (R.view run.old).setup ≡ Some j
+        → objects_of j.program.families ≤ scan.old.objects }
     requires entries { RECORDS ≤ scan.old.entries }
     ensures came { Came (R.view run.old) (R.view run.new) result }
     ensures room { HasRoomOf scan.old scan.new }

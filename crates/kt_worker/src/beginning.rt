@@ -44,13 +44,16 @@ pub fn run_begun<'a, R: Run, G: Gate, W: Wait>(
     at: u32,
     own: bool,
 ) -> (Worker<'a, R>, bool)
-    requires begun { HasBegun (R.view worker.run) worker.program.now worker.tally tools.old.stack.levels at own }
+    requires begun { HasBegun (R.view worker.run) worker.program.now worker.tally
+        tools.old.stack.levels at own }
     requires accepted { IsAccepted worker.program.now }
     requires firsts { HasFirsts worker.program.now.families worker.firsts.now }
     requires room { HasRoom worker.program.now tools.old }
-    ensures turns { Turns (R.view worker.entry.run) (R.view result.0.run) worker.entry.program.now result.0.tally tools.new.stack.levels result.1 }
+    ensures turns { Turns (R.view worker.entry.run) (R.view result.0.run) worker.entry.program.now
+        result.0.tally tools.new.stack.levels result.1 }
     ensures room { HasRoom worker.entry.program.now tools.new }
-    ensures program { (result.0.program.now ≡ worker.entry.program.now) × (result.0.firsts.now ≡ worker.entry.firsts.now) }
+    ensures program { (result.0.program.now ≡ worker.entry.program.now)
+        × (result.0.firsts.now ≡ worker.entry.firsts.now) }
 {
     let number = worker.run.number_of(at);
     gate.started(worker.run.worker(), number);
@@ -69,15 +72,18 @@ fn run_whole<'a, R: Run>(
     at: u32,
     own: bool,
 ) -> (Worker<'a, R>, bool)
-    requires begun { HasBegun (R.view worker.run) worker.program.now worker.tally tools.old.stack.levels at own }
+    requires begun { HasBegun (R.view worker.run) worker.program.now worker.tally
+        tools.old.stack.levels at own }
     requires accepted { IsAccepted worker.program.now }
     requires call { IsCallIn (R.view worker.run) at call.now }
     requires plain { is_loop_at worker.program.now call.now.task ≡ false }
     requires firsts { HasFirsts worker.program.now.families worker.firsts.now }
     requires room { HasRoom worker.program.now tools.old }
-    ensures turns { Turns (R.view worker.entry.run) (R.view result.0.run) worker.entry.program.now result.0.tally tools.new.stack.levels result.1 }
+    ensures turns { Turns (R.view worker.entry.run) (R.view result.0.run) worker.entry.program.now
+        result.0.tally tools.new.stack.levels result.1 }
     ensures room { HasRoom worker.entry.program.now tools.new }
-    ensures program { (result.0.program.now ≡ worker.entry.program.now) × (result.0.firsts.now ≡ worker.entry.firsts.now) }
+    ensures program { (result.0.program.now ≡ worker.entry.program.now)
+        × (result.0.firsts.now ≡ worker.entry.firsts.now) }
 {
     let Worker {
         run,

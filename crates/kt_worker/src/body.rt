@@ -52,7 +52,19 @@ pub fn go<R: Run, B: Began>(run: R, start: Start, tiles: &mut Tiles) -> Gone<R>
     requires accepted { IsAccepted start.program.now }
     requires fits { Fits start.program.now start.call.now }
     requires plain { is_loop_at start.program.now start.call.now.task ≡ false }
-    requires stands { StandsAt B.view (record { view = R.view run; program = start.program.now; firsts = start.firsts.now; parent = start.parent; first = start.first; forks = 0; frame = start.frame; limit = false }) start.program.now (Whole start.call.now) [] 0 }
+    requires stands { StandsAt B.view
+        (record {
+          view = R.view run;
+          program = start.program.now;
+          firsts = start.firsts.now;
+          parent =
+              start.parent;
+          first = start.first;
+          forks = 0;
+          frame = start.frame;
+          limit = false;
+        })
+        start.program.now (Whole start.call.now) [] 0 }
     ensures { GoneSo B.view (R.view result.run) start.entry.program.now result.forks result.ended }
 {
     let mut hands: Hands<R, B> = Hands {
@@ -82,8 +94,21 @@ pub fn zero<R: Run, B: Began>(run: R, start: Start) -> Gone<R>
     requires accepted { IsAccepted start.program.now }
     requires fits { Fits start.program.now start.call.now }
     requires loops { is_loop_at start.program.now start.call.now.task ≡ true }
-    requires stands { StandsAt B.view (record { view = R.view run; program = start.program.now; firsts = start.firsts.now; parent = start.parent; first = start.first; forks = 0; frame = start.frame; limit = false }) start.program.now (Whole start.call.now) [] 0 }
-    ensures { ZeroedSo B.view (R.view result.run) start.entry.program.now result.forks result.ended }
+    requires stands { StandsAt B.view
+        (record {
+          view = R.view run;
+          program = start.program.now;
+          firsts = start.firsts.now;
+          parent =
+              start.parent;
+          first = start.first;
+          forks = 0;
+          frame = start.frame;
+          limit = false;
+        })
+        start.program.now (Whole start.call.now) [] 0 }
+    ensures { ZeroedSo B.view (R.view result.run) start.entry.program.now result.forks
+        result.ended }
 {
     let mut hands: Hands<R, B> = Hands {
         run,

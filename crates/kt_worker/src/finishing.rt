@@ -20,7 +20,8 @@ fn fault_of<R: Run>(run: &mut R, level: &Level) -> Option<FaultAt>
     requires inside { IsRecord (R.view run.old) level.now.at }
     requires held { (m : Spot) × IsHeld (R.view run.old) level.now.at m }
     ensures climbed { HasClimbed (R.view run.old) (R.view run.new) }
-    ensures fault { (m : Spot) → IsHeld (R.view run.old) level.now.at m → result ≡ fault_at m.path (fault_with level.now.ended) }
+    ensures fault { (m : Spot) → IsHeld (R.view run.old) level.now.at m
+        → result ≡ fault_at m.path (fault_with level.now.ended) }
 {
     match level.ended {
         Ended::Fault(fault, line) => {
@@ -58,12 +59,15 @@ fn raise(stack: &mut Stack, own: bool)
 
 /// Finishes a task all of whose children are finished, or a loop of which no index is left.
 pub fn finish<'a, R: Run>(worker: Worker<'a, R>, stack: &mut Stack, level: Level) -> Worker<'a, R>
-    requires calm { Calm (R.view worker.run) worker.program.now worker.tally (level ∷ stack.old.levels) }
+    requires calm { Calm (R.view worker.run) worker.program.now worker.tally
+        (level ∷ stack.old.levels) }
     requires through { IsThrough (R.view worker.run) level }
     requires room { length stack.old.levels ≤ stack.old.room }
-    ensures turns { Turns (R.view worker.entry.run) (R.view result.run) worker.entry.program.now result.tally stack.new.levels true }
+    ensures turns { Turns (R.view worker.entry.run) (R.view result.run) worker.entry.program.now
+        result.tally stack.new.levels true }
     ensures room { stack.new.room ≡ stack.old.room }
-    ensures program { (result.program.now ≡ worker.entry.program.now) × (result.firsts.now ≡ worker.entry.firsts.now) }
+    ensures program { (result.program.now ≡ worker.entry.program.now)
+        × (result.firsts.now ≡ worker.entry.firsts.now) }
 {
     let Worker {
         mut run,

@@ -65,7 +65,18 @@ impl<'a, R: Run, B: Began> Ops for Hands<'a, R, B> {
     ghost use Rattle.std.specs.Prelude.{◌≡◌, true};
     ghost use Rattle.kt_worker.specs.Hands.{StandsAt};
 
-    ghost at = { λ h p job answers count. StandsAt B.view (record { view = R.view h.run; program = h.program.now; firsts = h.firsts.now; parent = h.parent; first = h.first; forks = h.forks; frame = h.frame; limit = h.limit }) p job answers count };
+    ghost at = { λ h p job answers count. StandsAt B.view
+        (record {
+          view = R.view h.run;
+          program = h.program.now;
+          firsts = h.firsts.now;
+          parent = h.parent;
+          first = h.first;
+          forks = h.forks;
+          frame = h.frame;
+          limit = h.limit;
+        })
+        p job answers count };
 
     ghost goes = { λ x operation y. Unit {0} };
 

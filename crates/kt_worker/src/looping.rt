@@ -30,8 +30,10 @@ pub fn run_own<'a, R: Run, W: Wait>(rt: &W, worker: Worker<'a, R>, at: u32) -> (
     requires firsts { HasFirsts worker.program.now.families worker.firsts.now }
     requires home { (R.view worker.run).loops.home ≡ suc at }
     requires none_taken { (R.view worker.run).loops.taken ≡ [] }
-    ensures ran { RanOwn at (R.view worker.entry.run) (R.view result.0.run) worker.entry.tally result.0.tally result.1 }
-    ensures program { (result.0.program.now ≡ worker.entry.program.now) × (result.0.firsts.now ≡ worker.entry.firsts.now) }
+    ensures ran { RanOwn at (R.view worker.entry.run) (R.view result.0.run) worker.entry.tally
+        result.0.tally result.1 }
+    ensures program { (result.0.program.now ≡ worker.entry.program.now)
+        × (result.0.firsts.now ≡ worker.entry.firsts.now) }
 {
     let Worker {
         run,
@@ -59,11 +61,14 @@ fn begin<'a, R: Run>(
     tools: &mut Tools,
     level: Level,
 ) -> (Worker<'a, R>, bool)
-    requires may { MayLoop (R.view worker.run) worker.program.now worker.tally tools.old.stack.levels level }
+    requires may { MayLoop (R.view worker.run) worker.program.now worker.tally
+        tools.old.stack.levels level }
     requires room { HasRoom worker.program.now tools.old }
-    ensures opened { Opens (R.view worker.entry.run) (R.view result.0.run) worker.entry.program.now result.0.tally tools.new.stack.levels level.at result.1 }
+    ensures opened { Opens (R.view worker.entry.run) (R.view result.0.run) worker.entry.program.now
+        result.0.tally tools.new.stack.levels level.at result.1 }
     ensures room { HasRoom worker.entry.program.now tools.new }
-    ensures program { (result.0.program.now ≡ worker.entry.program.now) × (result.0.firsts.now ≡ worker.entry.firsts.now) }
+    ensures program { (result.0.program.now ≡ worker.entry.program.now)
+        × (result.0.firsts.now ≡ worker.entry.firsts.now) }
 {
     match worker.run.begin_loop(level.at) {
         Begun::Limit(_) => (worker, false),
@@ -83,15 +88,18 @@ pub fn open_loop<'a, R: Run>(
     at: u32,
     own: bool,
 ) -> (Worker<'a, R>, bool)
-    requires begun { HasBegun (R.view worker.run) worker.program.now worker.tally tools.old.stack.levels at own }
+    requires begun { HasBegun (R.view worker.run) worker.program.now worker.tally
+        tools.old.stack.levels at own }
     requires accepted { IsAccepted worker.program.now }
     requires call { IsCallIn (R.view worker.run) at call.now }
     requires loops { is_loop_at worker.program.now call.now.task ≡ true }
     requires firsts { HasFirsts worker.program.now.families worker.firsts.now }
     requires room { HasRoom worker.program.now tools.old }
-    ensures opened { Opens (R.view worker.entry.run) (R.view result.0.run) worker.entry.program.now result.0.tally tools.new.stack.levels at result.1 }
+    ensures opened { Opens (R.view worker.entry.run) (R.view result.0.run) worker.entry.program.now
+        result.0.tally tools.new.stack.levels at result.1 }
     ensures room { HasRoom worker.entry.program.now tools.new }
-    ensures program { (result.0.program.now ≡ worker.entry.program.now) × (result.0.firsts.now ≡ worker.entry.firsts.now) }
+    ensures program { (result.0.program.now ≡ worker.entry.program.now)
+        × (result.0.firsts.now ≡ worker.entry.firsts.now) }
 {
     let Worker {
         run,
@@ -162,15 +170,18 @@ pub fn run_loop<'a, R: Run, W: Wait>(
     at: u32,
     own: bool,
 ) -> (Worker<'a, R>, bool)
-    requires begun { HasBegun (R.view worker.run) worker.program.now worker.tally tools.old.stack.levels at own }
+    requires begun { HasBegun (R.view worker.run) worker.program.now worker.tally
+        tools.old.stack.levels at own }
     requires accepted { IsAccepted worker.program.now }
     requires call { IsCallIn (R.view worker.run) at call.now }
     requires loops { is_loop_at worker.program.now call.now.task ≡ true }
     requires firsts { HasFirsts worker.program.now.families worker.firsts.now }
     requires room { HasRoom worker.program.now tools.old }
-    ensures turns { Turns (R.view worker.entry.run) (R.view result.0.run) worker.entry.program.now result.0.tally tools.new.stack.levels result.1 }
+    ensures turns { Turns (R.view worker.entry.run) (R.view result.0.run) worker.entry.program.now
+        result.0.tally tools.new.stack.levels result.1 }
     ensures room { HasRoom worker.entry.program.now tools.new }
-    ensures program { (result.0.program.now ≡ worker.entry.program.now) × (result.0.firsts.now ≡ worker.entry.firsts.now) }
+    ensures program { (result.0.program.now ≡ worker.entry.program.now)
+        × (result.0.firsts.now ≡ worker.entry.firsts.now) }
 {
     let (worker, opened) = open_loop(worker, tools, call, at, own);
     if opened {

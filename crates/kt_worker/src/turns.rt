@@ -35,13 +35,16 @@ fn run_given<'a, R: Run, G: Gate, W: Wait>(
     gate: &G,
     at: u32,
 ) -> (Worker<'a, R>, bool)
-    requires given { IsAboutToStart (R.view worker.run) worker.program.now worker.tally tools.old.stack.levels at }
+    requires given { IsAboutToStart (R.view worker.run) worker.program.now worker.tally
+        tools.old.stack.levels at }
     requires accepted { IsAccepted worker.program.now }
     requires firsts { HasFirsts worker.program.now.families worker.firsts.now }
     requires room { HasRoom worker.program.now tools.old }
-    ensures turns { Turns (R.view worker.entry.run) (R.view result.0.run) worker.entry.program.now result.0.tally tools.new.stack.levels result.1 }
+    ensures turns { Turns (R.view worker.entry.run) (R.view result.0.run) worker.entry.program.now
+        result.0.tally tools.new.stack.levels result.1 }
     ensures room { HasRoom worker.entry.program.now tools.new }
-    ensures program { (result.0.program.now ≡ worker.entry.program.now) × (result.0.firsts.now ≡ worker.entry.firsts.now) }
+    ensures program { (result.0.program.now ≡ worker.entry.program.now)
+        × (result.0.firsts.now ≡ worker.entry.firsts.now) }
 {
     worker.run.start(at);
     if worker.run.stopped() {
@@ -57,13 +60,16 @@ fn search<'a, R: Run, G: Gate, W: Wait>(
     tools: &mut Tools,
     gate: &G,
 ) -> (Worker<'a, R>, bool)
-    requires calm { Calm (R.view worker.run) worker.program.now worker.tally tools.old.stack.levels }
+    requires calm { Calm (R.view worker.run) worker.program.now worker.tally
+        tools.old.stack.levels }
     requires accepted { IsAccepted worker.program.now }
     requires firsts { HasFirsts worker.program.now.families worker.firsts.now }
     requires room { HasRoom worker.program.now tools.old }
-    ensures turns { Turns (R.view worker.entry.run) (R.view result.0.run) worker.entry.program.now result.0.tally tools.new.stack.levels result.1 }
+    ensures turns { Turns (R.view worker.entry.run) (R.view result.0.run) worker.entry.program.now
+        result.0.tally tools.new.stack.levels result.1 }
     ensures room { HasRoom worker.entry.program.now tools.new }
-    ensures program { (result.0.program.now ≡ worker.entry.program.now) × (result.0.firsts.now ≡ worker.entry.firsts.now) }
+    ensures program { (result.0.program.now ≡ worker.entry.program.now)
+        × (result.0.firsts.now ≡ worker.entry.firsts.now) }
 {
     let Worker {
         mut run,
@@ -108,13 +114,16 @@ fn steal<'a, R: Run, G: Gate, W: Wait>(
     tools: &mut Tools,
     gate: &G,
 ) -> (Worker<'a, R>, bool)
-    requires calm { Calm (R.view worker.run) worker.program.now worker.tally tools.old.stack.levels }
+    requires calm { Calm (R.view worker.run) worker.program.now worker.tally
+        tools.old.stack.levels }
     requires accepted { IsAccepted worker.program.now }
     requires firsts { HasFirsts worker.program.now.families worker.firsts.now }
     requires room { HasRoom worker.program.now tools.old }
-    ensures turns { Turns (R.view worker.entry.run) (R.view result.0.run) worker.entry.program.now result.0.tally tools.new.stack.levels result.1 }
+    ensures turns { Turns (R.view worker.entry.run) (R.view result.0.run) worker.entry.program.now
+        result.0.tally tools.new.stack.levels result.1 }
     ensures room { HasRoom worker.entry.program.now tools.new }
-    ensures program { (result.0.program.now ≡ worker.entry.program.now) × (result.0.firsts.now ≡ worker.entry.firsts.now) }
+    ensures program { (result.0.program.now ≡ worker.entry.program.now)
+        × (result.0.firsts.now ≡ worker.entry.firsts.now) }
 {
     if tools.owed == 0 {
         return search(rt, worker, tools, gate);
@@ -132,13 +141,16 @@ fn pause_or_steal<'a, R: Run, G: Gate, W: Wait>(
     tools: &mut Tools,
     gate: &G,
 ) -> (Worker<'a, R>, bool)
-    requires calm { Calm (R.view worker.run) worker.program.now worker.tally tools.old.stack.levels }
+    requires calm { Calm (R.view worker.run) worker.program.now worker.tally
+        tools.old.stack.levels }
     requires accepted { IsAccepted worker.program.now }
     requires firsts { HasFirsts worker.program.now.families worker.firsts.now }
     requires room { HasRoom worker.program.now tools.old }
-    ensures turns { Turns (R.view worker.entry.run) (R.view result.0.run) worker.entry.program.now result.0.tally tools.new.stack.levels result.1 }
+    ensures turns { Turns (R.view worker.entry.run) (R.view result.0.run) worker.entry.program.now
+        result.0.tally tools.new.stack.levels result.1 }
     ensures room { HasRoom worker.entry.program.now tools.new }
-    ensures program { (result.0.program.now ≡ worker.entry.program.now) × (result.0.firsts.now ≡ worker.entry.firsts.now) }
+    ensures program { (result.0.program.now ≡ worker.entry.program.now)
+        × (result.0.firsts.now ≡ worker.entry.firsts.now) }
 {
     if worker.pause.is_completed() {
         return steal(rt, worker, tools, gate);
@@ -155,14 +167,17 @@ fn run_entry<'a, R: Run, G: Gate, W: Wait>(
     gate: &G,
     level: Level,
 ) -> (Worker<'a, R>, bool)
-    requires calm { Calm (R.view worker.run) worker.program.now worker.tally (level ∷ tools.old.stack.levels) }
+    requires calm { Calm (R.view worker.run) worker.program.now worker.tally
+        (level ∷ tools.old.stack.levels) }
     requires left { level.next < level.count }
     requires accepted { IsAccepted worker.program.now }
     requires firsts { HasFirsts worker.program.now.families worker.firsts.now }
     requires room { HasRoom worker.program.now tools.old }
-    ensures turns { Turns (R.view worker.entry.run) (R.view result.0.run) worker.entry.program.now result.0.tally tools.new.stack.levels result.1 }
+    ensures turns { Turns (R.view worker.entry.run) (R.view result.0.run) worker.entry.program.now
+        result.0.tally tools.new.stack.levels result.1 }
     ensures room { HasRoom worker.entry.program.now tools.new }
-    ensures program { (result.0.program.now ≡ worker.entry.program.now) × (result.0.firsts.now ≡ worker.entry.firsts.now) }
+    ensures program { (result.0.program.now ≡ worker.entry.program.now)
+        × (result.0.firsts.now ≡ worker.entry.firsts.now) }
 {
     let at = worker.tally.base + level.first + level.next;
     if level.stolen {
@@ -186,15 +201,18 @@ fn wait_for<'a, R: Run, G: Gate, W: Wait>(
     level: Level,
     at: u32,
 ) -> (Worker<'a, R>, bool)
-    requires calm { Calm (R.view worker.run) worker.program.now worker.tally (level ∷ tools.old.stack.levels) }
+    requires calm { Calm (R.view worker.run) worker.program.now worker.tally
+        (level ∷ tools.old.stack.levels) }
     requires left { level.next < level.count }
     requires at { at ≡ worker.tally.base + level.first + level.next }
     requires accepted { IsAccepted worker.program.now }
     requires firsts { HasFirsts worker.program.now.families worker.firsts.now }
     requires room { HasRoom worker.program.now tools.old }
-    ensures turns { Turns (R.view worker.entry.run) (R.view result.0.run) worker.entry.program.now result.0.tally tools.new.stack.levels result.1 }
+    ensures turns { Turns (R.view worker.entry.run) (R.view result.0.run) worker.entry.program.now
+        result.0.tally tools.new.stack.levels result.1 }
     ensures room { HasRoom worker.entry.program.now tools.new }
-    ensures program { (result.0.program.now ≡ worker.entry.program.now) × (result.0.firsts.now ≡ worker.entry.firsts.now) }
+    ensures program { (result.0.program.now ≡ worker.entry.program.now)
+        × (result.0.firsts.now ≡ worker.entry.firsts.now) }
 {
     match worker.run.stand(at).stand {
         Stand::Finished => {
@@ -224,14 +242,17 @@ fn wait_for_indexes<'a, R: Run, G: Gate, W: Wait>(
     gate: &G,
     level: Level,
 ) -> (Worker<'a, R>, bool)
-    requires calm { Calm (R.view worker.run) worker.program.now worker.tally (level ∷ tools.old.stack.levels) }
+    requires calm { Calm (R.view worker.run) worker.program.now worker.tally
+        (level ∷ tools.old.stack.levels) }
     requires looping { level.looping ≡ true }
     requires accepted { IsAccepted worker.program.now }
     requires firsts { HasFirsts worker.program.now.families worker.firsts.now }
     requires room { HasRoom worker.program.now tools.old }
-    ensures turns { Turns (R.view worker.entry.run) (R.view result.0.run) worker.entry.program.now result.0.tally tools.new.stack.levels result.1 }
+    ensures turns { Turns (R.view worker.entry.run) (R.view result.0.run) worker.entry.program.now
+        result.0.tally tools.new.stack.levels result.1 }
     ensures room { HasRoom worker.entry.program.now tools.new }
-    ensures program { (result.0.program.now ≡ worker.entry.program.now) × (result.0.firsts.now ≡ worker.entry.firsts.now) }
+    ensures program { (result.0.program.now ≡ worker.entry.program.now)
+        × (result.0.firsts.now ≡ worker.entry.firsts.now) }
 {
     if worker.run.left(level.at) == 0 {
         worker.pause.reset();
@@ -248,14 +269,17 @@ fn idle<'a, R: Run, G: Gate, W: Wait>(
     tools: &mut Tools,
     gate: &G,
 ) -> (Worker<'a, R>, bool)
-    requires calm { Calm (R.view worker.run) worker.program.now worker.tally tools.old.stack.levels }
+    requires calm { Calm (R.view worker.run) worker.program.now worker.tally
+        tools.old.stack.levels }
     requires none { tools.old.stack.levels ≡ [] }
     requires accepted { IsAccepted worker.program.now }
     requires firsts { HasFirsts worker.program.now.families worker.firsts.now }
     requires room { HasRoom worker.program.now tools.old }
-    ensures turns { Turns (R.view worker.entry.run) (R.view result.0.run) worker.entry.program.now result.0.tally tools.new.stack.levels result.1 }
+    ensures turns { Turns (R.view worker.entry.run) (R.view result.0.run) worker.entry.program.now
+        result.0.tally tools.new.stack.levels result.1 }
     ensures room { HasRoom worker.entry.program.now tools.new }
-    ensures program { (result.0.program.now ≡ worker.entry.program.now) × (result.0.firsts.now ≡ worker.entry.firsts.now) }
+    ensures program { (result.0.program.now ≡ worker.entry.program.now)
+        × (result.0.firsts.now ≡ worker.entry.firsts.now) }
 {
     match worker.run.stand(0).stand {
         Stand::Finished => (worker, false),
@@ -272,13 +296,16 @@ fn go_on<'a, R: Run, G: Gate, W: Wait>(
     tools: &mut Tools,
     gate: &G,
 ) -> (Worker<'a, R>, bool)
-    requires calm { Calm (R.view worker.run) worker.program.now worker.tally tools.old.stack.levels }
+    requires calm { Calm (R.view worker.run) worker.program.now worker.tally
+        tools.old.stack.levels }
     requires accepted { IsAccepted worker.program.now }
     requires firsts { HasFirsts worker.program.now.families worker.firsts.now }
     requires room { HasRoom worker.program.now tools.old }
-    ensures turns { Turns (R.view worker.entry.run) (R.view result.0.run) worker.entry.program.now result.0.tally tools.new.stack.levels result.1 }
+    ensures turns { Turns (R.view worker.entry.run) (R.view result.0.run) worker.entry.program.now
+        result.0.tally tools.new.stack.levels result.1 }
     ensures room { HasRoom worker.entry.program.now tools.new }
-    ensures program { (result.0.program.now ≡ worker.entry.program.now) × (result.0.firsts.now ≡ worker.entry.firsts.now) }
+    ensures program { (result.0.program.now ≡ worker.entry.program.now)
+        × (result.0.firsts.now ≡ worker.entry.firsts.now) }
 {
     match tools.stack.pop() {
         None => idle(rt, worker, tools, gate),
@@ -301,13 +328,16 @@ pub fn turn<'a, R: Run, G: Gate, W: Wait>(
     tools: &mut Tools,
     gate: &G,
 ) -> (Worker<'a, R>, bool)
-    requires calm { Calm (R.view worker.run) worker.program.now worker.tally tools.old.stack.levels }
+    requires calm { Calm (R.view worker.run) worker.program.now worker.tally
+        tools.old.stack.levels }
     requires accepted { IsAccepted worker.program.now }
     requires firsts { HasFirsts worker.program.now.families worker.firsts.now }
     requires room { HasRoom worker.program.now tools.old }
-    ensures turns { Turns (R.view worker.entry.run) (R.view result.0.run) worker.entry.program.now result.0.tally tools.new.stack.levels result.1 }
+    ensures turns { Turns (R.view worker.entry.run) (R.view result.0.run) worker.entry.program.now
+        result.0.tally tools.new.stack.levels result.1 }
     ensures room { HasRoom worker.entry.program.now tools.new }
-    ensures program { (result.0.program.now ≡ worker.entry.program.now) × (result.0.firsts.now ≡ worker.entry.firsts.now) }
+    ensures program { (result.0.program.now ≡ worker.entry.program.now)
+        × (result.0.firsts.now ≡ worker.entry.firsts.now) }
 {
     if worker.run.stopped() {
         return (worker, false);

@@ -35,7 +35,14 @@ fn used_at_first(worker: u32) -> u32
 /// The numbers of a worker before its first turn.
 pub fn tally_of(worker: u32) -> Tally
     requires { worker ≤ 8 }
-    ensures { result ≡ record { base = RECORDS * worker; used = (if worker == 0 then 1 else 0); begun = 0; fault = None; victim = worker } }
+    ensures { result
+        ≡ record {
+          base = RECORDS * worker;
+          used = (if worker == 0 then 1 else 0);
+          begun = 0;
+          fault = None;
+          victim = worker;
+        } }
 {
     Tally {
         base: RECORDS * worker,
@@ -59,9 +66,11 @@ pub fn first_turn<'a, R: Run, G: Gate, W: Wait>(
     requires accepted { IsAccepted worker.program.now }
     requires firsts { HasFirsts worker.program.now.families worker.firsts.now }
     requires room { HasRoom worker.program.now tools.old }
-    ensures turns { Turns (R.view worker.entry.run) (R.view result.0.run) worker.entry.program.now result.0.tally tools.new.stack.levels result.1 }
+    ensures turns { Turns (R.view worker.entry.run) (R.view result.0.run) worker.entry.program.now
+        result.0.tally tools.new.stack.levels result.1 }
     ensures room { HasRoom worker.entry.program.now tools.new }
-    ensures program { (result.0.program.now ≡ worker.entry.program.now) × (result.0.firsts.now ≡ worker.entry.firsts.now) }
+    ensures program { (result.0.program.now ≡ worker.entry.program.now)
+        × (result.0.firsts.now ≡ worker.entry.firsts.now) }
 {
     if worker.tally.base != 0 {
         return (worker, true);

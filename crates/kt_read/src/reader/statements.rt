@@ -89,7 +89,8 @@ fn statement_behind_name(
     name: Name,
     place: Place,
 ) -> Result<(), Unread>
-    ensures { Adds (AfterStmtName name place) any source.old source.new stmts.old.items stmts.new.items result }
+    ensures { Adds (AfterStmtName name place) any source.old source.new stmts.old.items
+        stmts.new.items result }
 {
     if source.is(Mark::Becomes) {
         source.expect(Mark::Becomes)?;
@@ -117,7 +118,8 @@ fn statement_behind_element(
     place: Place,
     at: Expr,
 ) -> Result<(), Unread>
-    ensures { Adds (AfterElement name place at) any source.old source.new stmts.old.items stmts.new.items result }
+    ensures { Adds (AfterElement name place at) any source.old source.new stmts.old.items
+        stmts.new.items result }
 {
     if source.is(Mark::Becomes) {
         source.expect(Mark::Becomes)?;
@@ -147,7 +149,8 @@ fn statement_behind_element(
 /// `"if" expr block [ "else" block ]`
 #[cycle(statement)]
 fn if_statement(alloc: Global, source: &mut Source<'_>, stmts: &mut Vec<Stmt>) -> Result<(), Unread>
-    ensures { Adds IfStmt after_statement source.old source.new stmts.old.items stmts.new.items result }
+    ensures { Adds IfStmt after_statement source.old source.new stmts.old.items stmts.new.items
+        result }
 {
     let place = source.expect(Mark::If)?;
     let test = expression(alloc, source)?;
@@ -206,7 +209,8 @@ fn for_statement(
 
 #[cycle(statement)]
 fn statement(alloc: Global, source: &mut Source<'_>, stmts: &mut Vec<Stmt>) -> Result<(), Unread>
-    ensures { Adds ReadsStmt after_statement source.old source.new stmts.old.items stmts.new.items result }
+    ensures { Adds ReadsStmt after_statement source.old source.new stmts.old.items stmts.new.items
+        result }
 {
     if source.is(Mark::Let) {
         return let_statement(alloc, source, stmts);
