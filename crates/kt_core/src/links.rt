@@ -1,6 +1,6 @@
 // The links of the tasks of a core to their parents and children.
-ghost use Rattle.std.specs.Prelude.{◌≡◌, ◌≤◌, ◌<◌, ◌++◌, ◌∷◌, ◌^◌, [], drop, All, IfErr, IfOk, Some, length, slice_get, slice_set, slice_index};
-ghost use Rattle.kt_core.specs.Links.{AreDone, first_below, fresh_links, is_in_the_way, with_child, with_link, with_settled};
+ghost use Rattle.std.specs.Prelude.{ℕ, ◌≡◌, ◌≤◌, ◌<◌, ◌++◌, ◌∷◌, ◌^◌, [], drop, All, IfErr, IfOk, Some, false, length, slice_get, slice_set, slice_index};
+ghost use Rattle.kt_core.specs.Links.{AreDone, first_below, fresh_links, is_done, is_in_the_way, with_child, with_link, with_settled};
 ghost use Rattle.kt_tables.specs.Tables.{is_open};
 
 use crate::claims::calls_clash;
@@ -103,6 +103,7 @@ pub fn count_settled(tasks: &[TaskRow], numbers: &[u32], known: usize) -> usize
     requires done { AreDone tasks.now numbers.now known }
     ensures within { result ≤ length numbers.now }
     ensures done { AreDone tasks.now numbers.now result }
+    ensures next { (k : ℕ) → slice_get numbers.now result ≡ Some k → is_done tasks.now k ≡ false }
 {
     for place in known..numbers.len() {
         if !tasks[numbers[place] as usize].phase().is_finished() {
