@@ -1,5 +1,5 @@
 // What is kept beside the core to choose the next event by.
-ghost use Rattle.std.specs.Prelude.{◌≡◌, ◌<◌, ◌≤◌, ℕ, IfOk, IfSome, length};
+ghost use Rattle.std.specs.Prelude.{◌≡◌, ◌<◌, ◌≤◌, ℕ, IfNone, IfOk, IfSome, length};
 ghost use Rattle.kt_sim.specs.Choosing.{AreBelow};
 
 use kt_law::NoMemory;
@@ -132,7 +132,8 @@ impl Choices {
 /// The place of some task that waits, of so many: mostly of one of the last, before which few of its frame are open, so that a claim has
 /// few to pass; and now and then of any.
 pub fn pick_waiting(count: usize, random: &mut Xoshiro256PlusPlus) -> Option<usize>
-    ensures { IfSome result (λ place. place < count) }
+    ensures inside { IfSome result (λ place. place < count) }
+    ensures none { IfNone result (count ≡ 0) }
 {
     let reach = reach(count, random);
     match pick(reach, random) {
@@ -143,7 +144,8 @@ pub fn pick_waiting(count: usize, random: &mut Xoshiro256PlusPlus) -> Option<usi
 
 /// Among how many of the last tasks that wait, of so many, one is picked.
 fn reach(count: usize, random: &mut Xoshiro256PlusPlus) -> usize
-    ensures { result ≤ count }
+    ensures within { result ≤ count }
+    ensures some { result ≡ 0 → count ≡ 0 }
 {
     if random.random_range(0..NEAR) == 0 {
         return count;
@@ -153,7 +155,8 @@ fn reach(count: usize, random: &mut Xoshiro256PlusPlus) -> usize
 
 /// A number below another, if there is one.
 pub fn pick(count: usize, random: &mut Xoshiro256PlusPlus) -> Option<usize>
-    ensures { IfSome result (λ place. place < count) }
+    ensures inside { IfSome result (λ place. place < count) }
+    ensures none { IfNone result (count ≡ 0) }
 {
     if count == 0 {
         return None;

@@ -1,5 +1,5 @@
 // Events outside of bodies, and the finishes that one lets follow.
-ghost use Rattle.std.specs.Prelude.{◌≡◌, ◌<◌, All, None, length};
+ghost use Rattle.std.specs.Prelude.{◌≡◌, ◌≢◌, ◌<◌, All, None, Ok, false, length};
 ghost use Rattle.kt_sim.specs.Simulated.{IsCalm};
 ghost use Rattle.kt_sim.specs.Turns.{Does, IsOutside, Reaches, Tries};
 ghost use Rattle.kt_tables.specs.TableEvents.{refusal, task_of};
@@ -30,7 +30,8 @@ pub fn try_event(core: &mut Core, event: &Event) -> Result<bool, Stop>
     requires calm { IsCalm core.old }
     requires outside { IsOutside event.now }
     requires there { task_of event.now < length core.old.table.tasks }
-    ensures { Tries core.old core.new result }
+    ensures tries { Tries core.old core.new result }
+    ensures refused { result ≡ Ok false → refusal event.now core.old.table ≢ None }
 {
     core.is_lawful();
     match core.step(event) {
