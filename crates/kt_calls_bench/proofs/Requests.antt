@@ -1,6 +1,7 @@
 -- A seat that asks, before and after.
-use Rattle.std.proofs.Common.{◌≡◌, ◌≤◌, ◌<◌, ℕ, true, false, List, [], ◌∷◌, Some, get_or, length, slice_get, refl, sym, ap, ◌∙◌, subst, arith}
-use Rattle.std.proofs.lemmas.Option.{slice_get-get_or}
+use Rattle.std.proofs.Common.{◌≡◌, ◌≤◌, ◌<◌, ℕ, zero, suc, true, false, List, [], ◌∷◌, Some, get_or, length, slice_get, refl, sym, ap, ◌∙◌, subst, arith}
+use Rattle.std.specs.List.{All}
+use Rattle.std.proofs.lemmas.Option.{slice_get-get_or, slice_get_within}
 use Rattle.kt_law.specs.declared.limits.TheConstants.{WORKERS}
 use Rattle.kt_prog.specs.Objects.{objects_of}
 use Rattle.kt_prog.specs.Runs.{FaultRun}
@@ -25,7 +26,7 @@ use Rattle.kt_worker.specs.declared.tallies.Tally.{Tally}
 use Rattle.kt_worker.proofs.Requests.{crew_learnt, promised_learnt, setup_of, worker_learnt}
 use Rattle.kt_worker.proofs.Stands.{crew_same}
 use Rattle.kt_worker.proofs.Turning.{calm_crew, calm_idle, calm_of, setup_one}
-use Rattle.kt_calls_bench.specs.Asking.{HasScan, IsFirst, MayAsk}
+use Rattle.kt_calls_bench.specs.Asking.{HasScan, IsAtStart, MayAsk}
 
 -- it was given nothing
 pub again : (v w : View) (s s' : Contents) → MayAsk v s → HasRoomOf s s' → IsAnswered v w → w.tasks.given ≡ [] → MayAsk w s'
@@ -85,8 +86,8 @@ ended_asks v w p fault s fresh later e room =
       entries = room.entries;
     }
 
-fresh_at : (j : Setup) → 0 < j.workers → j.workers ≤ WORKERS → IsFresh (view_at_start j 0) j.program
-fresh_at j some few = record {
+fresh_at : (j : Setup) (k : ℕ) → k < j.workers → j.workers ≤ WORKERS → IsFresh (view_at_start j k) j.program
+fresh_at j zero some few = record {
   setup = j;
   told = refl;
   program = refl;
@@ -101,14 +102,48 @@ fresh_at j some few = record {
   leads = refl;
   loops = refl;
 }
+fresh_at j (suc k) some few = record {
+  setup = j;
+  told = refl;
+  program = refl;
+  own = some;
+  workers = few;
+  main = λ e. absurd (cc e);
+  others = λ ne. refl;
+  built = refl;
+  tasks = refl;
+  draws = refl;
+  free = refl;
+  leads = refl;
+  loops = refl;
+}
 
 -- a seat that has made no step
-pub fresh : (t : RunTable) (p : Program) (s : Seat) → IsFirst t p s → IsFresh s.token.me.0 p
-fresh t p s f = subst (λ (v : View). IsFresh v p) (sym f.start) (subst (IsFresh (view_at_start f.setup 0)) f.program (fresh_at f.setup f.some f.few))
+pub fresh : (t : RunTable) (p : Program) (s : Seat) → IsAtStart t p s → IsFresh s.token.me.0 p
+fresh t p s f = subst (λ (v : View). IsFresh v p) (sym f.start) (subst (IsFresh (view_at_start f.setup f.worker)) f.program (fresh_at f.setup f.worker f.own f.few))
 
--- the first seat of a pool
+-- each seat of a pool
+pub at_start : (j : Setup) (t : RunTable) (p : Program) (seats : List Seat) → AreSeatsOf j t seats → HaveNotStepped j seats → j.workers ≤ WORKERS
+    → j.program ≡ p → (k : ℕ) (s : Seat) → slice_get seats k ≡ Some s → IsAtStart t p s
+at_start j t p seats all still few program k s at = record {
+  setup = j;
+  worker = k;
+  is = all.each k s at;
+  start = (still k s at).0;
+  own = let n = all.count in let below = slice_get_within seats k s at in omega (arith, n, below);
+  few = few;
+  program = program;
+}
+
+-- the first of them
 pub first : (j : Setup) (t : RunTable) (p : Program) (seats : List Seat) (s : Seat) → AreSeatsOf j t seats → HaveNotStepped j seats → j.workers ≤ WORKERS
-    → j.program ≡ p → s ≡ get_or seats 0 s → IsFirst t p s
+    → j.program ≡ p → s ≡ get_or seats 0 s → IsAtStart t p s
 first j t p seats s all still few program is =
-    let at : slice_get seats 0 ≡ Some s = slice_get-get_or seats 0 s (let n = all.count in let some = all.some in omega (arith, n, some)) ∙ ap Some (sym is) in
-    record { setup = j; is = all.each 0 s at; start = (still 0 s at).0; some = all.some; few = few; program = program }
+    at_start j t p seats all still few program 0 s
+    (slice_get-get_or seats 0 s (let n = all.count in let some = all.some in omega (arith, n, some)) ∙ ap Some (sym is))
+
+-- all of them
+pub all_at_start : (j : Setup) (t : RunTable) (p : Program) (seats : List Seat) → AreSeatsOf j t seats → HaveNotStepped j seats → j.workers ≤ WORKERS
+    → j.program ≡ p → All (IsAtStart t p) seats
+all_at_start j t p seats all still few program k d below =
+    at_start j t p seats all still few program k (get_or seats k d) (slice_get-get_or seats k d below)

@@ -1,5 +1,5 @@
--- A seat that may ask its own worker, and the seat with which a run begins.
-use Rattle.std.specs.Prelude.{◌≡◌, ◌<◌, ◌≤◌, Some, []}
+-- A seat that may ask its own worker, and the seats with which a run begins.
+use Rattle.std.specs.Prelude.{◌≡◌, ◌<◌, ◌≤◌, ℕ, Some, []}
 use Rattle.kt_law.specs.declared.limits.TheConstants.{WORKERS}
 use Rattle.kt_prog.specs.Objects.{objects_of}
 use Rattle.kt_prog.specs.declared.programs.Program.{Program}
@@ -24,12 +24,13 @@ pub record MayAsk (v : View) (scan : Contents) : Type 0 where
   pub objects : (j : Setup) → v.setup ≡ Some j → objects_of j.program.families ≤ scan.objects
   pub entries : RECORDS ≤ scan.entries
 
--- the seat of worker 0, which has made no step
-pub record IsFirst (t : RunTable) (p : Program) (s : Seat) : Type 0 where
+-- the seat of a worker, which has made no step
+pub record IsAtStart (t : RunTable) (p : Program) (s : Seat) : Type 0 where
   pub setup : Setup
-  pub is : IsSeatOf setup t 0 s
-  pub start : s.token.me.0 ≡ view_at_start setup 0
-  pub some : 0 < setup.workers
+  pub worker : ℕ
+  pub is : IsSeatOf setup t worker s
+  pub start : s.token.me.0 ≡ view_at_start setup worker
+  pub own : worker < setup.workers
   pub few : setup.workers ≤ WORKERS
   pub program : setup.program ≡ p
 

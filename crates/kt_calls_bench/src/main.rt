@@ -1,14 +1,16 @@
-//! Times the calls of one seat, on one thread, for `bench/calls.py`.
+//! Times the calls of seats, of one alone and of all at one time, for `bench/calls.py`.
 //!
 //! Standard input is a job. The words are how many workers its table has, how often the seat asks, and `time`. Twice the seat is worker 0's: once it
 //! runs the body of `main`, begins one of the children, and asks itself for work while the others wait; once it runs the whole program, and then asks.
-//! A line has what was done, a kind of call and how many there were; with the word `time` behind them also the nanoseconds of all of them.
+//! A line has what was done, a kind of call and how many there were; with the word `time` behind them also the nanoseconds of all of them. With that word
+//! a third run follows, of all seats at one time, each on a thread of its own: lines of `crew` for each seat, since who does what depends on the schedule.
 #![tactic(auto)]
 
 mod asking;
 mod scenes;
 mod timed;
 mod times;
+mod together;
 
 ghost use Rattle.std.specs.Prelude.{◌≤◌, length};
 ghost use Rattle.kt_law.specs.declared.limits.TheConstants.{JOB};
@@ -20,8 +22,10 @@ use scenes::{Found, finished, waiting};
 use std::alloc::Global;
 use std::rt::Clock;
 use std::sync::Wait;
+use std::thread::Threads;
 use std::{env, io};
-use times::{Time, empty};
+use times::{Time, Times, empty};
+use together::together;
 
 /// What the words ask for.
 #[derive(Clone, Copy)]
@@ -54,6 +58,13 @@ fn tell(rt: &HostRuntime, request: &Request, what: &str, kind: &str, time: Time)
     println!(rt; "{what} {kind} {}", time.calls)
 }
 
+fn tell_all(rt: &HostRuntime, request: &Request, what: &str, times: &Times) -> io::Result<()> {
+    for (kind, time) in times.rows() {
+        tell(rt, request, what, kind, time)?;
+    }
+    Ok(())
+}
+
 fn tell_found(
     rt: &HostRuntime,
     request: &Request,
@@ -61,12 +72,8 @@ fn tell_found(
     asking: &str,
     found: &Found,
 ) -> io::Result<()> {
-    for (kind, time) in found.own.rows() {
-        tell(rt, request, own, kind, time)?;
-    }
-    for (kind, time) in found.asking.rows() {
-        tell(rt, request, asking, kind, time)?;
-    }
+    tell_all(rt, request, own, &found.own)?;
+    tell_all(rt, request, asking, &found.asking)?;
     println!(rt; "{asking} nothing {}", found.asked)
 }
 
@@ -84,13 +91,22 @@ impl From<NoMemory> for Unable {
     }
 }
 
-/// The seat's calls while children wait, and by a whole run.
-fn measured<C: Clock + Wait>(
+/// What was timed.
+#[derive(Drop)]
+struct Timings {
+    wait: Found,
+    ran: Found,
+    /// Of each seat; none where no times are told.
+    crew: Vec<Times>,
+}
+
+/// One seat's calls while children wait, and by a whole run, and those of all seats at one time.
+fn measured<C: Clock + Wait + Threads + Sync>(
     rt: &C,
     alloc: Global,
     request: &Request,
     job: &[u8],
-) -> Result<(Found, Found), Unable>
+) -> Result<Timings, Unable>
     requires { length job.now ≤ JOB }
 {
     let Ok((program, input)) = open_job(alloc, job) else {
@@ -101,7 +117,12 @@ fn measured<C: Clock + Wait>(
     }
     let wait = waiting(rt, alloc, &program, &input, request.workers, request.times)?;
     let ran = finished(rt, alloc, &program, &input, request.workers, request.times)?;
-    Ok((wait, ran))
+    let crew = if request.is_timed {
+        together(rt, alloc, &program, &input, request.workers)?
+    } else {
+        Vec::new(alloc)
+    };
+    Ok(Timings { wait, ran, crew })
 }
 
 fn main(rt: HostRuntime) -> io::Result<()> {
@@ -113,9 +134,12 @@ fn main(rt: HostRuntime) -> io::Result<()> {
         return println!(rt; "cannot read the job");
     };
     match measured(&rt, rt.alloc(), &request, job.as_slice()) {
-        Ok((wait, ran)) => {
+        Ok(Timings { wait, ran, crew }) => {
             tell_found(&rt, &request, "main", "waiting", &wait)?;
             tell_found(&rt, &request, "run", "finished", &ran)?;
+            for times in &crew {
+                tell_all(&rt, &request, "crew", times)?;
+            }
             let nothing = empty(&rt, request.times);
             tell(&rt, &request, "clock", "empty", nothing)
         }

@@ -4,7 +4,7 @@ ghost use Rattle.kt_law.specs.declared.limits.TheConstants.{WORKERS};
 ghost use Rattle.kt_prog.specs.Accepted.{IsAccepted};
 ghost use Rattle.kt_prog.specs.Objects.{inputs_of};
 ghost use Rattle.kt_worker.specs.Working.{IsFresh};
-ghost use Rattle.kt_calls_bench.specs.Asking.{HasScan, IsFirst, IsReady, MayAsk};
+ghost use Rattle.kt_calls_bench.specs.Asking.{HasScan, IsAtStart, IsReady, MayAsk};
 
 use crate::asking::{ask_often, start_one};
 use crate::timed::Timed;
@@ -70,7 +70,7 @@ fn wait_at<H: Home, C: Clock + Wait>(
     times: u32,
 ) -> Found
     requires home { H.table ≡ Some table.now.table.shared.table_id }
-    requires first { IsFirst table.now program.now seat }
+    requires first { IsAtStart table.now program.now seat }
     requires accepted { IsAccepted program.now }
     requires ready { IsReady program.now scratch }
 {
@@ -111,7 +111,7 @@ fn work_at<H: Home, C: Clock + Wait>(
     times: u32,
 ) -> Found
     requires home { H.table ≡ Some table.now.table.shared.table_id }
-    requires first { IsFirst table.now program.now seat }
+    requires first { IsAtStart table.now program.now seat }
     requires accepted { IsAccepted program.now }
     requires ready { IsReady program.now scratch }
     requires room { HasScan program.now scan }
@@ -148,7 +148,7 @@ fn wait_on<C: Clock + Wait>(
     scratch: Scratch,
     times: u32,
 ) -> Found
-    requires first { IsFirst table.now program.now seat }
+    requires first { IsAtStart table.now program.now seat }
     requires accepted { IsAccepted program.now }
     requires ready { IsReady program.now scratch }
 {
@@ -164,7 +164,7 @@ fn work_on<C: Clock + Wait>(
     scan: Scan,
     times: u32,
 ) -> Found
-    requires first { IsFirst table.now program.now seat }
+    requires first { IsAtStart table.now program.now seat }
     requires accepted { IsAccepted program.now }
     requires ready { IsReady program.now scratch }
     requires room { HasScan program.now scan }
